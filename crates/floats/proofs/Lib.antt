@@ -1,0 +1,4 @@
+pub mod Rounding
+pub mod Channels
+pub mod Bounds
+pub mod Worked

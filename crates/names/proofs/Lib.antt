@@ -1,0 +1,5 @@
+pub mod Orders
+pub mod Tables
+pub mod Naming
+pub mod Lent
+pub mod Searches

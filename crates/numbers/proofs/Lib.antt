@@ -1,0 +1,9 @@
+pub mod Sums
+pub mod Steps
+pub mod Shifts
+pub mod Exact
+pub mod Bounds
+pub mod Values
+pub mod Sames
+pub mod Nearest
+pub mod Worked

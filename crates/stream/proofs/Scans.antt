@@ -1,0 +1,87 @@
+-- The laws of a scan. Whoever proves a loop cites them and never opens the definition.
+use Prim.Native.Nat.{ℕ, suc, _+_, _-_, _≤_, _<_}
+use mathlib.Core.Bool.{Bool, true, false, cond}
+use mathlib.Core.List.{List, [], _∷_, _++_}
+use mathlib.Core.Path.{_≡_, refl}
+use native.Mathlib.Numerals.{add-one}
+use native.Mathlib.Omega.{arith}
+use lib.ListN.{length, getD, drop, length-drop, drop-of-length-le}
+use lib.Seq.{drop-cons, drop-append-add}
+use Rattle.stream.specs.Scan.{run, scan}
+
+-- The invariant of every scanning loop: from i on the scan comes to what it comes to from `at` on.
+pub record Scanning (p : ℕ → Bool) (s : List ℕ) (at i : ℕ) : Type 0 where
+  pub same : scan p s i ≡ scan p s at
+
+pub scan-start : (p : ℕ → Bool) (s : List ℕ) (at : ℕ) → Scanning p s at at
+scan-start p s at = record { same = refl }
+
+-- The laws of a loop that looks at one byte a turn: r is what the test of byte i answered.
+module _ {p : ℕ → Bool} {s : List ℕ} {at i : ℕ} {r : Bool} (v : Scanning p s at i) (q : r ≡ p (getD s i 0)) where
+  -- a byte of the class: one further
+  pub scan-go : r ≡ true → i < length s → Scanning p s at (i + 1)
+  unfolding scan run
+  scan-go e h =
+      let f : p (getD s i 0) ≡ true = cc in
+      let g : scan p s i ≡ scan p s (i + 1) = simp (drop-cons s i 0 h, f, add-one) (omega arith) in
+      record { same = cc }
+
+  -- any other: here
+  pub scan-stop : r ≡ false → i < length s → i ≡ scan p s at
+  unfolding scan run
+  scan-stop e h =
+      let f : p (getD s i 0) ≡ false = cc in
+      let g : scan p s i ≡ i = simp (drop-cons s i 0 h, f) (omega arith) in
+      cc
+
+-- the end: here
+pub scan-end : {p : ℕ → Bool} {s : List ℕ} {at i : ℕ} → Scanning p s at i → length s ≤ i → i ≡ scan p s at
+unfolding scan run
+scan-end {p} {s} {at} {i} v h =
+    let g : scan p s i ≡ i = simp (drop-of-length-le s h) (omega arith) in
+    cc
+
+pub ruleset scanned = (scan-start, scan-go, scan-stop, scan-end)
+
+pub scan-ge : (p : ℕ → Bool) (s : List ℕ) (i : ℕ) → i ≤ scan p s i
+unfolding scan
+scan-ge p s i = omega arith
+
+run-le : (p : ℕ → Bool) (l : List ℕ) → run p l ≤ length l
+unfolding run
+run-le p [] = omega arith
+run-le p (x ∷ xs) = go (p x) (run-le p xs)
+  where
+    go : (b : Bool) → run p xs ≤ length xs → cond b (suc (run p xs)) 0 ≤ suc (length xs)
+    go true h = omega arith
+    go false h = omega arith
+
+pub scan-le : (p : ℕ → Bool) (s : List ℕ) (i : ℕ) → i ≤ length s → scan p s i ≤ length s
+unfolding scan
+scan-le p s i h = omega (arith, run-le p (drop i s), length-drop i s)
+
+-- The bounds of a scan's end, of the number that a call answered
+pub from-scan : (p : ℕ → Bool) (s : List ℕ) (i e : ℕ) → e ≡ scan p s i → i ≤ e
+from-scan p s i e q = omega (arith, scan-ge p s i)
+
+pub scan-inside : (p : ℕ → Bool) (s : List ℕ) (i e : ℕ) → e ≡ scan p s i → i ≤ length s → e ≤ length s
+scan-inside p s i e q h = omega (arith, scan-le p s i h)
+
+pub run-inside : (p : ℕ → Bool) (s : List ℕ) (i : ℕ) → scan p s i - i ≤ length s
+unfolding scan
+run-inside p s i = omega (arith, run-le p (drop i s), length-drop i s)
+
+-- shift: a text put in front moves a scan by its bytes
+pub scan-shift : (p : ℕ → Bool) (a b : List ℕ) (i : ℕ) → scan p (a ++ b) (length a + i) ≡ length a + scan p b i
+unfolding scan
+scan-shift p a b i = simp drop-append-add (omega arith)
+
+-- the byte at which a scan stops is of another class, or past the end
+run-stops : (p : ℕ → Bool) (l : List ℕ) → p 0 ≡ false → p (getD l (run p l) 0) ≡ false
+unfolding run
+run-stops p [] z = z
+run-stops p (x ∷ xs) z = go (p x) refl (run-stops p xs z)
+  where
+    go : (t : Bool) → p x ≡ t → p (getD xs (run p xs) 0) ≡ false → p (getD (x ∷ xs) (cond t (suc (run p xs)) 0) 0) ≡ false
+    go true e ih = ih
+    go false e ih = e

@@ -1,0 +1,149 @@
+-- The walk of the UTF-8 test: its loop, and what it says of a text that is cut or joined.
+use Prim.Native.Nat.{ℕ, zero, suc, _+_, _-_, _^_, _≤_, _<_}
+use mathlib.Core.Bool.{Bool, true, false, cond, _&&_}
+use mathlib.Core.List.{List, [], _∷_, _++_}
+use mathlib.Core.Path.{_≡_, refl, sym, ap, _∙_}
+use native.Mathlib.Omega.{arith}
+use borrow.Author.Tests.{eq-eqb, ne-eqb}
+use lib.Dec.{eqb, eqb·suc-zero}
+use lib.ListN.{length, getD, take, drop, drop-of-length-le, length-drop}
+use lib.Seq.{drop-cons, drop-drop}
+use mir.Syntax.{w64}
+use mir.Val.{Fits}
+use Rattle.stream.specs.Bytes.{isTail}
+use Rattle.stream.specs.Characters.{charLen, walk, utf8Of, skipChars}
+use Rattle.stream.specs.Moves.{moveUtf8}
+use Rattle.stream.specs.declared.Utf8.{Utf8}
+use Rattle.stream.specs.declared.Utf8.the-variants.{WellFormed, IllFormed}
+use Rattle.stream.proofs.Octets.{char-le, char-inside, char-more, char-ascii}
+
+pub walk-skip : (i k : ℕ) (l : List ℕ) → walk i k l ≡ walk (i + k) 0 (drop k l)
+unfolding walk
+walk-skip i zero [] = refl
+walk-skip i (suc k) [] = refl
+walk-skip i zero (x ∷ xs) =
+    let e : i + 0 ≡ i = omega arith in
+    rw e refl
+walk-skip i (suc k) (x ∷ xs) =
+    let e : i + suc k ≡ i + 1 + k = omega arith in
+    rw e (walk-skip (i + 1) k xs)
+
+-- the loop: from i on the walk finds what it finds from the start
+pub record Walking (s : List ℕ) (i : ℕ) : Type 0 where
+  pub same : walk i 0 (drop i s) ≡ utf8Of s
+
+pub walk-start : (s : List ℕ) → Walking s 0
+unfolding utf8Of
+walk-start s = record { same = refl }
+
+pub walk-end : {s : List ℕ} {i : ℕ} → Walking s i → length s ≤ i → WellFormed ≡ utf8Of s
+unfolding walk
+walk-end {s} {i} v h = simp (drop-of-length-le s h) at (v .same)
+
+module _ {s : List ℕ} {i : ℕ} (v : Walking s i) (h : i < length s) where
+  step : {n : ℕ} → n ≡ charLen (drop i s) → cond (eqb n 0) (IllFormed (record { 0 = i })) (walk (i + 1) (n - 1) (drop (suc i) s)) ≡ utf8Of s
+  unfolding walk
+  step {n} q =
+      let a : drop i s ≡ getD s i 0 ∷ drop (suc i) s = drop-cons s i 0 h in
+      let b : charLen (getD s i 0 ∷ drop (suc i) s) ≡ n = simp (← a) (sym q) in
+      simp (a, b) at (v .same)
+
+  pub walk-bad : {n : ℕ} → n ≡ charLen (drop i s) → n ≡ 0 → IllFormed (record { 0 = i }) ≡ utf8Of s
+  walk-bad {n} q e = simp (eq-eqb n 0 e) at (step q)
+
+  pub walk-go : {n : ℕ} → n ≡ charLen (drop i s) → (n ≡ 0 → ⊥) → Walking s (i + n)
+  walk-go {n} q e =
+      let a : walk (i + 1) (n - 1) (drop (suc i) s) ≡ utf8Of s = simp (ne-eqb n 0 e) at (step q) in
+      let b : i + 1 + (n - 1) ≡ i + n = omega arith in
+      let d : suc i + (n - 1) ≡ i + n = omega arith in
+      record { same = cc (walk-skip (i + 1) (n - 1) (drop (suc i) s), drop-drop (n - 1) (suc i) s) }
+
+  pub walk-ascii : getD s i 0 < 128 → Walking s (i + 1)
+  walk-ascii l = walk-go (sym (simp (drop-cons s i 0 h) (char-ascii (getD s i 0) (drop (suc i) s) l))) (λ e. omega arith)
+
+pub char-fits : (s : List ℕ) (i n : ℕ) → n ≡ charLen (drop i s) → i < length s → i + n ≤ length s
+char-fits s i n q h = omega (arith, char-le (drop i s), length-drop i s)
+
+pub char-add : (s : List ℕ) (i n : ℕ) → n ≡ charLen (drop i s) → i < length s → length s < 2 ^ 64 → Fits w64 (i + n)
+char-add s i n q h l = omega (arith, char-fits s i n q h)
+
+pub ruleset walked = (walk-start, walk-end, walk-bad, walk-go, walk-ascii)
+
+-- the loop that goes on by characters: as many are left, and what it comes to is what it came to from the start
+pub record Skipping (s : List ℕ) (n at left i : ℕ) : Type 0 where
+  pub same : skipChars left s i ≡ skipChars n s at
+  pub inside : i ≤ length s
+
+pub skip-start : (s : List ℕ) (n at : ℕ) → at ≤ length s → Skipping s n at n at
+skip-start s n at h = record { same = refl; inside = h }
+
+skip-past : (n : ℕ) (s : List ℕ) (i : ℕ) → length s ≤ i → skipChars n s i ≡ i
+unfolding skipChars charLen
+skip-past zero s i h = refl
+skip-past (suc n) s i h =
+    let e : i + 0 ≡ i = omega arith in
+    simp (drop-of-length-le s h, e) (skip-past n s i h)
+
+module _ {s : List ℕ} {n at left i : ℕ} (v : Skipping s n at left i) where
+  pub skip-end : length s ≤ i → i ≡ skipChars n s at
+  skip-end h = sym (skip-past left s i h) ∙ v .same
+
+  pub skip-done : left ≤ 0 → i ≡ skipChars n s at
+  unfolding skipChars
+  skip-done h =
+      let e : left ≡ 0 = omega arith in
+      rw e at (v .same)
+
+pub skip-go : {s : List ℕ} {n at left i : ℕ} → Skipping s n at left i → 0 < left → i < length s → {k : ℕ} → k ≡ charLen (drop i s) → Skipping s n at (left - 1) (i + k)
+unfolding skipChars
+skip-go {s} {n} {at} {left = zero} {i} v l h {k} q = absurd (omega arith)
+skip-go {s} {n} {at} {left = suc m} {i} v l h {k} q =
+    let e : suc m - 1 ≡ m = omega arith in
+    record { same = rw (e, q) (v .same); inside = char-fits s i k q h }
+
+pub ruleset skipped = (skip-start, skip-end, skip-done, skip-go)
+
+-- a UTF-8 text in front: the walk goes on with what follows
+walk-join : (l : List ℕ) (i k : ℕ) (b : List ℕ) → k ≤ length l → walk i k l ≡ WellFormed → walk i k (l ++ b) ≡ walk (i + length l) 0 b
+unfolding walk
+walk-join [] i zero b h e =
+    let q : i + 0 ≡ i = omega arith in
+    rw q refl
+walk-join [] i (suc k) b h e = absurd (omega arith)
+walk-join (x ∷ xs) i (suc k) b h e =
+    let q : i + suc (length xs) ≡ i + 1 + length xs = omega arith in
+    rw q (walk-join xs (i + 1) k b (omega arith) e)
+walk-join (x ∷ xs) i zero b h e = go (charLen (x ∷ xs)) refl e (walk-join xs (i + 1))
+  where
+    go : (n : ℕ) → charLen (x ∷ xs) ≡ n → cond (eqb n 0) (IllFormed (record { 0 = i })) (walk (i + 1) (n - 1) xs) ≡ WellFormed
+        → ((k : ℕ) (b : List ℕ) → k ≤ length xs → walk (i + 1) k xs ≡ WellFormed → walk (i + 1) k (xs ++ b) ≡ walk (i + 1 + length xs) 0 b)
+        → cond (eqb (charLen (x ∷ xs ++ b)) 0) (IllFormed (record { 0 = i })) (walk (i + 1) (charLen (x ∷ xs ++ b) - 1) (xs ++ b)) ≡ walk (i + suc (length xs)) 0 b
+    go zero f e ih = let z : _≡_ {A = ℕ} 0 1 = cc in absurd (omega arith)
+    go (suc n) f e ih =
+        let m : suc n - 1 ≡ n = omega arith in
+        let t : eqb (suc n) 0 ≡ false = eqb·suc-zero n in
+        let w : walk (i + 1) n xs ≡ WellFormed = simp (t, m) at e in
+        let q : i + suc (length xs) ≡ i + 1 + length xs = omega arith in
+        simp (char-more x xs n f b, q, m, t) (ih n b (char-inside x xs n f) w)
+
+walk-move : (l : List ℕ) (m i k : ℕ) → walk (m + i) k l ≡ moveUtf8 m (walk i k l)
+unfolding walk
+walk-move [] m i k = refl
+walk-move (x ∷ xs) m i (suc k) =
+    let q : m + i + 1 ≡ m + (i + 1) = omega arith in
+    rw q (walk-move xs m (i + 1) k)
+walk-move (x ∷ xs) m i zero = go (eqb (charLen (x ∷ xs)) 0) (walk-move xs m (i + 1) (charLen (x ∷ xs) - 1))
+  where
+    go : (t : Bool) → walk (m + (i + 1)) (charLen (x ∷ xs) - 1) xs ≡ moveUtf8 m (walk (i + 1) (charLen (x ∷ xs) - 1) xs)
+        → cond t (IllFormed (record { 0 = m + i })) (walk (m + i + 1) (charLen (x ∷ xs) - 1) xs) ≡ moveUtf8 m (cond t (IllFormed (record { 0 = i })) (walk (i + 1) (charLen (x ∷ xs) - 1) xs))
+    go true ih = refl
+    go false ih =
+        let q : m + i + 1 ≡ m + (i + 1) = omega arith in
+        rw q ih
+
+-- shift: a UTF-8 text in front moves the place of the first ill-formed sequence, and no more
+pub utf8-join : (a b : List ℕ) → utf8Of a ≡ WellFormed → utf8Of (a ++ b) ≡ moveUtf8 (length a) (utf8Of b)
+unfolding utf8Of
+utf8-join a b e =
+    let q : 0 + length a ≡ length a + 0 = omega arith in
+    walk-join a 0 0 b (omega arith) e ∙ rw q (walk-move b (length a) 0 0)

@@ -1,0 +1,176 @@
+-- The laws of a word that is looked for at a place.
+use Prim.Native.Nat.{ℕ, zero, suc, _+_, _-_, _^_, _≤_, _<_}
+use mathlib.Core.Bool.{Bool, true, false, _&&_, cond}
+use mathlib.Core.List.{List, [], _∷_, _++_, map}
+use mathlib.Core.Path.{_≡_, refl, sym, ap, _∙_}
+use native.Mathlib.Numerals.{add-one}
+use native.Mathlib.Omega.{arith}
+use borrow.Author.Tests.{eqb-true, eq-eqb, ne-eqb, lt-ltb, le-ltb, ltb-true}
+use lib.Dec.{eqb, ltb}
+use lib.ListN.{length, getD, take, drop, length-drop, drop-of-length-le, length-append, length-map}
+use lib.Seq.{drop-cons, drop-append-add, getD-append-add}
+use mir.Syntax.{w8, w64}
+use mir.Val.{Fits}
+use Rattle.stream.specs.Words.{startsWith, isCurrByteEq, same, lowerOf, lowered}
+use Rattle.stream.specs.Bytes.{within, isUpper}
+use Rattle.stream.proofs.Ranges.{within-le, and-false}
+
+-- the invariant of the loop: the k bytes passed are alike, so that the rest decides
+pub record Matching (w s : List ℕ) (k : ℕ) : Type 0 where
+  pub same : startsWith (drop k w) (drop k s) ≡ startsWith w s
+
+pub match-start : (w s : List ℕ) → Matching w s 0
+match-start w s = record { same = refl }
+
+module _ {w s : List ℕ} {k : ℕ} (v : Matching w s k) where
+  pub match-all : length w ≤ k → true ≡ startsWith w s
+  unfolding startsWith
+  match-all h = simp (drop-of-length-le w h) at (v .same)
+
+  module _ (h : k < length w) where
+    pub match-short : length s ≤ k → false ≡ startsWith w s
+    unfolding startsWith
+    match-short l = simp (drop-cons w k 0 h, drop-of-length-le s l) at (v .same)
+
+    pub match-go : k < length s → getD s k 0 ≡ getD w k 0 → Matching w s (k + 1)
+    unfolding startsWith
+    match-go l e = record { same = simp add-one (simp (drop-cons w k 0 h, drop-cons s k 0 l, eq-eqb _ _ e) at (v .same)) }
+
+    pub match-other : k < length s → (getD s k 0 ≡ getD w k 0 → ⊥) → false ≡ startsWith w s
+    unfolding startsWith
+    match-other l e = simp (drop-cons w k 0 h, drop-cons s k 0 l, ne-eqb _ _ e) at (v .same)
+
+pub ruleset matched = (match-start, match-go, match-other, match-short, match-all)
+
+starts-le : (w s : List ℕ) → startsWith w s ≡ true → length w ≤ length s
+unfolding startsWith
+starts-le [] s e = omega arith
+starts-le (w ∷ ws) [] e = let z : _≡_ {A = ℕ} 0 1 = cc in absurd (omega arith)
+starts-le (w ∷ ws) (x ∷ xs) e = go (eqb x w) (starts-le ws xs) e
+  where
+    go : (t : Bool) → (startsWith ws xs ≡ true → length ws ≤ length xs) → (t && startsWith ws xs) ≡ true → suc (length ws) ≤ suc (length xs)
+    go true ih h = omega (arith, ih h)
+    go false ih h = let z : _≡_ {A = ℕ} 0 1 = cc in absurd (omega arith)
+
+-- a word that is there ends inside: the sum with its length fits
+pub word-inside : (w : ℕ) (ws s : List ℕ) (i : ℕ) (r : Bool) → r ≡ true → r ≡ startsWith (w ∷ ws) (drop i s) → i + suc (length ws) ≤ length s
+word-inside w ws s i r e q =
+    let f : startsWith (w ∷ ws) (drop i s) ≡ true = cc in
+    omega (arith, starts-le (w ∷ ws) (drop i s) f, length-drop i s)
+
+pub word-fits : (w : ℕ) (ws s : List ℕ) (i : ℕ) (r : Bool) (n : ℕ) → r ≡ true → r ≡ startsWith (w ∷ ws) (drop i s) → length s < 2 ^ 64 → n ≡ suc (length ws) → Fits w64 (i + n)
+word-fits w ws s i r n e q h k = omega (arith, word-inside w ws s i r e q)
+
+-- two texts of one length are the same if the one begins with the other
+same-starts : (s w : List ℕ) → length s ≡ length w → startsWith w s ≡ same s w
+unfolding startsWith same
+same-starts [] [] e = refl
+same-starts [] (y ∷ ys) e = absurd (omega arith)
+same-starts (x ∷ xs) [] e = absurd (omega arith)
+same-starts (x ∷ xs) (y ∷ ys) e = ap (λ (t : Bool). eqb x y && t) (same-starts xs ys (omega arith))
+
+same-length : (s w : List ℕ) → (length s ≡ length w → ⊥) → same s w ≡ false
+unfolding same
+same-length [] [] n = absurd (n refl)
+same-length [] (y ∷ ys) n = refl
+same-length (x ∷ xs) [] n = refl
+same-length (x ∷ xs) (y ∷ ys) n = rw (same-length xs ys (λ e. n (omega arith))) (and-false (eqb x y))
+
+module _ (s w : List ℕ) where
+  pub same-begins : {r : Bool} → length s ≡ length w → r ≡ startsWith w s → r ≡ same s w
+  same-begins e q = q ∙ same-starts s w e
+
+  pub same-other : (length s ≡ length w → ⊥) → false ≡ same s w
+  same-other n = sym (same-length s w n)
+
+  pub lower-begins : {r : Bool} → length s ≡ length w → r ≡ startsWith w (lowered s) → r ≡ same (lowered s) w
+  lower-begins e q = q ∙ same-starts (lowered s) w (simp length-map e)
+
+  pub lower-other : (length s ≡ length w → ⊥) → false ≡ same (lowered s) w
+  lower-other n = sym (same-length (lowered s) w (λ e. n (simp length-map at e)))
+
+pub ruleset alike = (same-begins, same-other, lower-begins, lower-other)
+
+pub same-refl : (w : List ℕ) → same w w ≡ true
+unfolding same
+same-refl [] = refl
+same-refl (x ∷ xs) = rw (eq-eqb x x refl) (same-refl xs)
+
+pub same-eq : (s w : List ℕ) → same s w ≡ true → s ≡ w
+unfolding same
+same-eq [] [] e = refl
+same-eq [] (y ∷ ys) e = let z : _≡_ {A = ℕ} 0 1 = cc in absurd (omega arith)
+same-eq (x ∷ xs) [] e = let z : _≡_ {A = ℕ} 0 1 = cc in absurd (omega arith)
+same-eq (x ∷ xs) (y ∷ ys) e = go (eqb x y) refl e (same-eq xs ys)
+  where
+    go : (t : Bool) → eqb x y ≡ t → (t && same xs ys) ≡ true → (same xs ys ≡ true → xs ≡ ys) → x ∷ xs ≡ y ∷ ys
+    go true q f ih = let g : x ≡ y = eqb-true x y q in let h : xs ≡ ys = ih f in cc
+    go false q f ih = let z : _≡_ {A = ℕ} 0 1 = cc in absurd (omega arith)
+
+pub lower-up : (b : ℕ) {r : Bool} → r ≡ isUpper b → r ≡ true → b + 32 ≡ lowerOf b
+unfolding lowerOf
+lower-up b q e = rw (← q, e)
+
+pub lower-kept : (b : ℕ) {r : Bool} → r ≡ isUpper b → r ≡ false → b ≡ lowerOf b
+unfolding lowerOf
+lower-kept b q e = rw (← q, e)
+
+pub lower-fits : (b : ℕ) {r : Bool} → r ≡ isUpper b → r ≡ true → Fits w8 (b + 32)
+lower-fits b q e = let f : true ≡ isUpper b = cc in record { fits = omega (arith, within-le 65 90 b f) }
+
+pub ruleset lowers = (lower-up, lower-kept, lower-fits)
+
+lower-at : (s : List ℕ) (k : ℕ) → k < length s → getD (lowered s) k 0 ≡ lowerOf (getD s k 0)
+lower-at [] k h = absurd (omega arith)
+lower-at (x ∷ xs) zero h = refl
+lower-at (x ∷ xs) (suc k) h = lower-at xs k (omega arith)
+
+-- the same loop over the text in lower case: b is the byte that was lowered
+pub record Lowering (w s : List ℕ) (k : ℕ) : Type 0 where
+  pub alike : Matching w (lowered s) k
+
+pub lower-start : (w s : List ℕ) → Lowering w s 0
+lower-start w s = record { alike = match-start w (lowered s) }
+
+module _ {w s : List ℕ} {k : ℕ} (v : Lowering w s k) where
+  pub lower-all : length w ≤ k → true ≡ startsWith w (lowered s)
+  lower-all h = match-all (v .alike) h
+
+  module _ (h : k < length w) where
+    pub lower-short : length s ≤ k → false ≡ startsWith w (lowered s)
+    lower-short l = match-short (v .alike) h (simp length-map l)
+
+    module _ (l : k < length s) {b : ℕ} (q : b ≡ lowerOf (getD s k 0)) where
+      pub lower-go : b ≡ getD w k 0 → Lowering w s (k + 1)
+      lower-go e = record { alike = match-go (v .alike) h (simp length-map l) (lower-at s k l ∙ sym q ∙ e) }
+
+      pub lower-differs : (b ≡ getD w k 0 → ⊥) → false ≡ startsWith w (lowered s)
+      lower-differs n = match-other (v .alike) h (simp length-map l) (λ e. n (q ∙ sym (lower-at s k l) ∙ e))
+
+pub word-add : (w s : List ℕ) (i : ℕ) {r : Bool} → r ≡ startsWith w (drop i s) → r ≡ true → i < length s → length s < 2 ^ 64 → Fits w64 (i + length w)
+word-add w s i q e h l =
+    let f : startsWith w (drop i s) ≡ true = cc in
+    omega (arith, starts-le w (drop i s) f, length-drop i s)
+
+module _ (s : List ℕ) (i c : ℕ) where
+  pub curr-there : i < length s → eqb (getD s i 0) c ≡ isCurrByteEq s i c
+  unfolding isCurrByteEq
+  curr-there h = simp (lt-ltb i (length s) h)
+
+  pub curr-past : length s ≤ i → false ≡ isCurrByteEq s i c
+  unfolding isCurrByteEq
+  curr-past h = simp (le-ltb i (length s) h)
+
+  -- a byte that is there lies inside
+  pub curr-inside : {r : Bool} → r ≡ isCurrByteEq s i c → r ≡ true → i < length s
+  unfolding isCurrByteEq
+  curr-inside q e = go (ltb i (length s)) refl (cc)
+    where
+      go : (t : Bool) → ltb i (length s) ≡ t → (t && eqb (getD s i 0) c) ≡ true → i < length s
+      go true f g = ltb-true i (length s) f
+      go false f g = let z : _≡_ {A = ℕ} 0 1 = cc in absurd (omega arith)
+
+  pub curr-next : {r : Bool} → r ≡ isCurrByteEq s i c → r ≡ true → length s < 2 ^ 64 → Fits w64 (i + 1)
+  curr-next q e h = omega (arith, curr-inside q e)
+
+pub ruleset current = (curr-there, curr-past)

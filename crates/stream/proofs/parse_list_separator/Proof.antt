@@ -1,0 +1,15 @@
+use borrow.Author.Needs.{needs}
+use Rattle.stream.specs.Faults.{parseListSeparator}
+use Rattle.stream.proofs.Flows.{flow}
+use Rattle.stream.proofs.Wording.{curr-next}
+use Rattle.stream.proofs.parse_list_separator.Statement.{statement}
+use Rattle.stream.proofs.parse_list_separator.Tie as tie
+
+pub parse-list-separator-spec : {M : Type 1} → statement M
+parse-list-separator-spec =
+    tie.close
+    (tie.spec
+    (λ c κs. search needs)
+    (λ c. search (curr-next, needs))
+    (λ c. unfold parseListSeparator in search (flow, needs) depth 20)
+    (λ c. unfold parseListSeparator in search (flow, needs) depth 20))

@@ -1,0 +1,72 @@
+-- The edge: document 01's record of a refusal, and which text may be read.
+use Prim.Native.Nat.{ℕ, _-_}
+use mathlib.Core.Bool.{cond}
+use mathlib.Core.List.{List}
+use lib.Dec.{leb, eqb}
+use lib.ListN.{length}
+use Rattle.stream.specs.Characters.{utf8Of, calcCharPosAt, onCharacter}
+use Rattle.stream.specs.declared.Trouble.{Trouble}
+use Rattle.stream.specs.declared.Trouble.the-variants as T
+use Rattle.stream.specs.declared.Fault.{Fault}
+use Rattle.stream.specs.declared.Refusal.{Refusal}
+use Rattle.stream.specs.declared.Place.{Place}
+use Rattle.stream.specs.declared.Utf8.{Utf8}
+use Rattle.stream.specs.declared.Utf8.the-variants.{WellFormed, IllFormed}
+use Rattle.stream.specs.declared.Admission.{Admission}
+use Rattle.stream.specs.declared.Admission.the-variants as A
+
+-- "Refusal numbers", the table's column No.
+unfoldable pub numberOf : Trouble → ℕ
+numberOf T.UnexpectedEndOfStream = 4
+numberOf T.InvalidValue = 5
+numberOf T.UnexpectedData = 6
+numberOf T.InvalidChar = 7
+numberOf T.InvalidString = 8
+numberOf T.WrongByte = 9
+numberOf T.TextEnded = 9
+numberOf T.WrongForm = 10
+numberOf T.TooLarge = 10
+numberOf T.ScaleOutOfRange = 10
+numberOf T.PercentageValue = 11
+numberOf T.NegativeValue = 12
+numberOf T.InvalidAngle = 13
+numberOf T.MissingDropShadowOffset = 14
+numberOf T.InvalidUrl = 15
+
+-- a refusal that tells nothing but its number
+abbrev pub bareRefusal : ℕ → Refusal
+bareRefusal n = record { number = n; position = record { 0 = 0 }; place = record { 0 = 0 }; found = 0; wanted = 0; part = record { start = record { 0 = 0 }; len = 0 } }
+
+-- "A refusal gives number, position (0 where none is listed), place (0 but for 2), found and wanted byte (0 but for 7), a part of the text (empty but for 8)". A position is listed for all from 6 on. The fault's places count in s
+unfoldable pub refusalOf : List ℕ → Fault → Refusal
+refusalOf s f =
+    let n = numberOf (f .trouble) in
+    record {
+      number = n;
+      position = record { 0 = cond (leb n 5) 0 (calcCharPosAt s (f .at .0)) };
+      place = record { 0 = 0 };
+      found = cond (eqb n 7) (f .found) 0;
+      wanted = cond (eqb n 7) (f .wanted) 0;
+      part = record { start = record { 0 = cond (eqb n 8) (f .from .0) 0 }; len = cond (eqb n 8) (f .to .0 - f .from .0) 0 };
+    }
+
+-- 2: "place of the first ill-formed sequence"
+abbrev pub illFormed : Place → Refusal
+illFormed p = record { number = 2; position = record { 0 = 0 }; place = p; found = 0; wanted = 0; part = record { start = record { 0 = 0 }; len = 0 } }
+
+unfoldable pub admitUtf8 : Utf8 → Admission
+admitUtf8 WellFormed = A.Admitted
+admitUtf8 (IllFormed p) = A.Refused (illFormed p)
+
+-- "1: text over 4,096 bytes", then "2: not UTF-8 (RFC 3629)"
+unfoldable pub admitText : List ℕ → Admission
+admitText s = cond (leb (length s) 4096) (admitUtf8 (utf8Of s)) (A.Refused (bareRefusal 1))
+
+-- go on with a text that may be read, or refuse
+abbrev pub thenAdmitted : {B : Type 0} → (Refusal → B) → Admission → B → B
+thenAdmitted out A.Admitted k = k
+thenAdmitted out (A.Refused e) k = out e
+
+-- then "3: list place past the end, or inside a character"
+unfoldable pub admitPlace : List ℕ → ℕ → Admission
+admitPlace s i = thenAdmitted A.Refused (admitText s) (cond (onCharacter s i) A.Admitted (A.Refused (bareRefusal 3)))

@@ -1,0 +1,153 @@
+// The edge: which text may be read, and the numbers of document 01.
+ghost use mathlib.Core.Path.{_≡_};
+ghost use Prim.Native.Nat.{_-_};
+ghost use Rattle.stream.specs.Characters.{utf8Of, onCharacter};
+ghost use Rattle.stream.specs.Refusals.{numberOf, bareRefusal, refusalOf, illFormed, admitText, admitPlace};
+use crate::Admission;
+use crate::Fault;
+use crate::Part;
+use crate::Place;
+use crate::Position;
+use crate::Refusal;
+use crate::Trouble;
+use crate::Utf8;
+use crate::calc_char_pos_at;
+use crate::is_tail;
+use crate::utf8_test;
+
+fn number_of(trouble: Trouble) -> u8
+    ensures { λ r. ⌜ r ≡ numberOf trouble ⌝ }
+{
+    match trouble {
+        Trouble::UnexpectedEndOfStream => 4,
+        Trouble::InvalidValue => 5,
+        Trouble::UnexpectedData => 6,
+        Trouble::InvalidChar => 7,
+        Trouble::InvalidString => 8,
+        Trouble::WrongByte => 9,
+        Trouble::TextEnded => 9,
+        Trouble::WrongForm => 10,
+        Trouble::TooLarge => 10,
+        Trouble::ScaleOutOfRange => 10,
+        Trouble::PercentageValue => 11,
+        Trouble::NegativeValue => 12,
+        Trouble::InvalidAngle => 13,
+        Trouble::MissingDropShadowOffset => 14,
+        Trouble::InvalidUrl => 15,
+    }
+}
+
+// A refusal that tells nothing but its number.
+fn bare_refusal(number: u8) -> Refusal
+    ensures { λ r. ⌜ r ≡ bareRefusal number ⌝ }
+{
+    Refusal {
+        number,
+        position: Position(0),
+        place: Place(0),
+        found: 0,
+        wanted: 0,
+        part: Part {
+            start: Place(0),
+            len: 0,
+        },
+    }
+}
+
+// The bytes between two places, 0 where they are the wrong way round.
+fn distance(from: Place, to: Place) -> usize
+    ensures { λ r. ⌜ r ≡ to .0 - from .0 ⌝ }
+{
+    let a = from.0;
+    let e = to.0;
+    if a <= e { e - a } else { 0 }
+}
+
+// The refusal that a fault is. Here alone characters are counted, once a refusal.
+pub fn refusal_of(text: &[u8], fault: Fault) -> Refusal
+    requires { ⌜ utf8Of (now text) ≡ Utf8.WellFormed ⌝ }
+    ensures { λ r. ⌜ r ≡ refusalOf (now (text .entry)) fault ⌝ }
+{
+    let trouble = fault.trouble;
+    let number = number_of(trouble);
+    let mut refusal = bare_refusal(number);
+    if number <= 5 {
+        return refusal;
+    }
+    let place = fault.at;
+    let position = calc_char_pos_at(text, place);
+    refusal.position = position;
+    if number == 7 {
+        refusal.found = fault.found;
+        refusal.wanted = fault.wanted;
+        return refusal;
+    }
+    if number == 8 {
+        let start = fault.from;
+        let end = fault.to;
+        let part = Part {
+            start,
+            len: distance(start, end),
+        };
+        refusal.part = part;
+        return refusal;
+    }
+    refusal
+}
+
+// Whether a UTF-8 text has a character's first byte, or its end, at a place.
+fn on_character(text: &[u8], place: Place) -> bool
+    requires { ⌜ utf8Of (now text) ≡ Utf8.WellFormed ⌝ }
+    ensures { λ r. ⌜ r ≡ onCharacter (now (text .entry)) (place .0) ⌝ }
+{
+    let i = place.0;
+    if i < text.len() {
+        return !is_tail(text[i]);
+    }
+    i == text.len()
+}
+
+fn ill_formed(place: Place) -> Refusal
+    ensures { λ r. ⌜ r ≡ illFormed place ⌝ }
+{
+    Refusal {
+        number: 2,
+        position: Position(0),
+        place,
+        found: 0,
+        wanted: 0,
+        part: Part {
+            start: Place(0),
+            len: 0,
+        },
+    }
+}
+
+// Whether a text may be read: 1, then 2.
+pub fn admit_text(text: &[u8]) -> Admission
+    ensures { λ r. ⌜ r ≡ admitText (now (text .entry)) ⌝ }
+{
+    if 4096 < text.len() {
+        return Admission::Refused(bare_refusal(1));
+    }
+    match utf8_test(text) {
+        Utf8::WellFormed => Admission::Admitted,
+        Utf8::IllFormed(place) => Admission::Refused(ill_formed(place)),
+    }
+}
+
+// Whether a list in a text may be read from a place: 1, 2, then 3.
+pub fn admit_place(text: &[u8], place: Place) -> Admission
+    ensures { λ r. ⌜ r ≡ admitPlace (now (text .entry)) (place .0) ⌝ }
+{
+    match admit_text(text) {
+        Admission::Refused(refusal) => Admission::Refused(refusal),
+        Admission::Admitted => {
+            if on_character(text, place) {
+                Admission::Admitted
+            } else {
+                Admission::Refused(bare_refusal(3))
+            }
+        }
+    }
+}
