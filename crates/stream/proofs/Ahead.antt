@@ -69,7 +69,7 @@ pass-one a i t s e =
 
 -- scans
 
-run-bytes : (p : ℕ → Bool) (l : List ℕ) (k : ℕ) → k < run p l → p (getD l k 0) ≡ true
+pub run-bytes : (p : ℕ → Bool) (l : List ℕ) (k : ℕ) → k < run p l → p (getD l k 0) ≡ true
 unfolding run
 run-bytes p [] k h = absurd (omega arith)
 run-bytes p (x ∷ xs) k h = go (p x) refl k h (run-bytes p xs)

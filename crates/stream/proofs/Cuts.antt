@@ -3,20 +3,23 @@ use Prim.Native.Nat.{ℕ, zero, suc, _+_, _-_, _≤_, _<_}
 use mathlib.Core.Bool.{Bool, true, false, _&&_, _||_, cond}
 use mathlib.Core.List.{List, [], _∷_}
 use mathlib.Core.Path.{_≡_, refl, sym, ap, subst, _∙_}
-use native.Mathlib.Numerals.{sub-one}
+use native.Mathlib.Numerals.{add-one, sub-one}
 use native.Mathlib.Omega.{arith}
 use borrow.Author.Tests.{leb-true, eqb-true, le-leb}
 use lib.Dec.{eqb, leb, lit≤, eqb·suc-zero}
-use lib.ListN.{length, getD, take, drop, List·getD-eq-default}
+use lib.ListN.{length, getD, take, drop, length-drop, List·getD-eq-default}
 use lib.Seq.{drop-drop, getD-drop}
 use Rattle.stream.specs.Blanks.{blank1, blank2, blank3, blankLen, blankAt, byteBefore, blankEnd, blankBefore, front, trimStart, back, trimEnd, trimOf}
 use Rattle.stream.specs.Bytes.{within, isTail}
 use Rattle.stream.specs.Characters.{Range, Row, table, keeps, rowOf, lenAt, charLen, walk, utf8Of}
+use Rattle.stream.specs.Scan.{run, scan}
 use Rattle.stream.specs.declared.Utf8.{Utf8}
 use Rattle.stream.specs.declared.Utf8.the-variants.{WellFormed, IllFormed}
 use Rattle.stream.proofs.Ranges.{either, within-yes, within-ge, within-le}
 use Rattle.stream.proofs.Octets.{and-true, and-first, and-second, tails, row-1, row-3, char-at, char-tails, char-first, char-ascii}
 use Rattle.stream.proofs.Trimming.{blankBefore-le}
+use Rattle.stream.proofs.Scans.{run-le}
+use Rattle.stream.proofs.Ahead.{run-bytes}
 
 -- a step by a length: 0 stops, any other goes on
 step : {A : Type 0} (P : A → Type 0) (n : ℕ) (a : A) (b : ℕ → A) → P a → ((m : ℕ) → n ≡ suc m → P (b m)) → P (cond (eqb n 0) a (b (n - 1)))
@@ -89,6 +92,36 @@ module _ (s : List ℕ) (m : ℕ) (u : utf8Of s ≡ WellFormed) (c : isTail (get
   pub utf8-take : utf8Of (take m s) ≡ WellFormed
   unfolding utf8Of
   utf8-take = chars-walk 0 (chars-cut m (chars s u) c .0)
+
+chars-head : {l : List ℕ} → Chars 0 l → isTail (getD l 0 0) ≡ false
+unfolding within
+chars-head end = refl
+chars-head (first {n} {x} {xs} f w) = char-first x xs n f
+
+chars-next : {k : ℕ} {l : List ℕ} (j : ℕ) → Chars k l → j < length l → getD l j 0 < 128 → isTail (getD l (suc j) 0) ≡ false
+chars-next j end h c = absurd (omega arith)
+chars-next zero (later {x = x} t w) h c = absurd (omega (arith, within-ge 0x80 0xbf x (sym t)))
+chars-next zero (first {n} {x} {xs} f w) h c =
+    let e : n ≡ 0 = omega (arith, char-ascii x xs c) in
+    chars-head (rw e at w)
+chars-next (suc j) (later t w) h c = chars-next j w (omega arith) c
+chars-next (suc j) (first f w) h c = chars-next j w (omega arith) c
+
+-- after an ASCII byte a character starts, or the text ends
+pub after-ascii : (s : List ℕ) (j : ℕ) → utf8Of s ≡ WellFormed → j < length s → getD s j 0 < 128 → isTail (getD s (j + 1) 0) ≡ false
+after-ascii s j u h c = rw add-one (chars-next j (chars s u) h c)
+
+-- so where a scan over ASCII bytes stops
+pub scan-on : (p : ℕ → Bool) → ((x : ℕ) → p x ≡ true → x < 128) → (s : List ℕ) (i : ℕ) → utf8Of s ≡ WellFormed → isTail (getD s i 0) ≡ false → isTail (getD s (scan p s i) 0) ≡ false
+unfolding scan
+scan-on p f s i u c = go (run p (drop i s)) refl
+  where
+    go : (n : ℕ) → run p (drop i s) ≡ n → isTail (getD s (i + n) 0) ≡ false
+    go zero e = let q : i + 0 ≡ i = omega arith in rw q c
+    go (suc n) e =
+        let q : i + suc n ≡ i + n + 1 = omega arith in
+        let b : p (getD s (i + n) 0) ≡ true = rw getD-drop at (run-bytes p (drop i s) n (omega arith)) in
+        rw q (after-ascii s (i + n) u (omega (arith, run-le p (drop i s), length-drop i s)) (f (getD s (i + n) 0) b))
 
 -- from the tests of white space to the ranges of the table, for `search`
 or-then : (t u : Bool) {w : Bool} → (t ≡ true → w ≡ true) → (u ≡ true → w ≡ true) → (t || u) ≡ true → w ≡ true

@@ -12,3 +12,4 @@ pub mod Counting
 pub mod Trimming
 pub mod Edges
 pub mod Cuts
+pub mod Worked

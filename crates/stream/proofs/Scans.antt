@@ -47,7 +47,7 @@ pub scan-ge : (p : ℕ → Bool) (s : List ℕ) (i : ℕ) → i ≤ scan p s i
 unfolding scan
 scan-ge p s i = omega arith
 
-run-le : (p : ℕ → Bool) (l : List ℕ) → run p l ≤ length l
+pub run-le : (p : ℕ → Bool) (l : List ℕ) → run p l ≤ length l
 unfolding run
 run-le p [] = omega arith
 run-le p (x ∷ xs) = go (p x) (run-le p xs)

@@ -1,6 +1,6 @@
 -- The edge: document 01's record of a refusal, and which text may be read.
 use Prim.Native.Nat.{ℕ, _-_}
-use mathlib.Core.Bool.{cond}
+use mathlib.Core.Bool.{Bool, cond}
 use mathlib.Core.List.{List}
 use lib.Dec.{leb, eqb}
 use lib.ListN.{length}
@@ -49,6 +49,10 @@ refusalOf s f =
       wanted = cond (eqb n 7) (f .wanted) 0;
       part = record { start = record { 0 = cond (eqb n 8) (f .from .0) 0 }; len = cond (eqb n 8) (f .to .0 - f .from .0) 0 };
     }
+
+-- "Refusal 10 is never swallowed": whether a fault is 10
+unfoldable pub isOutsideDomain : Fault → Bool
+isOutsideDomain f = eqb (numberOf (f .trouble)) 10
 
 -- 2: "place of the first ill-formed sequence"
 abbrev pub illFormed : Place → Refusal

@@ -2,7 +2,7 @@
 ghost use mathlib.Core.Path.{_≡_};
 ghost use Prim.Native.Nat.{_-_};
 ghost use Rattle.stream.specs.Characters.{utf8Of, onCharacter};
-ghost use Rattle.stream.specs.Refusals.{numberOf, bareRefusal, refusalOf, illFormed, admitText, admitPlace};
+ghost use Rattle.stream.specs.Refusals.{numberOf, bareRefusal, refusalOf, isOutsideDomain, illFormed, admitText, admitPlace};
 use crate::Admission;
 use crate::Fault;
 use crate::Part;
@@ -93,6 +93,14 @@ pub fn refusal_of(text: &[u8], fault: Fault) -> Refusal
         return refusal;
     }
     refusal
+}
+
+// Whether a fault is a number outside the domain, which nothing swallows.
+pub fn is_outside_domain(fault: Fault) -> bool
+    ensures { λ r. ⌜ r ≡ isOutsideDomain fault ⌝ }
+{
+    let trouble = fault.trouble;
+    number_of(trouble) == 10
 }
 
 // Whether a UTF-8 text has a character's first byte, or its end, at a place.

@@ -20,6 +20,7 @@ pub use characters::skip_chars;
 pub use characters::utf8_test;
 pub use edge::admit_place;
 pub use edge::admit_text;
+pub use edge::is_outside_domain;
 pub use edge::refusal_of;
 pub use faults::invalid_value;
 pub use faults::trouble_at;
