@@ -56,6 +56,24 @@ module _ (s : List ℕ) {r : Admission} (q : r ≡ admitText s) (e : r ≡ A.Adm
 
 pub ruleset admitted = (admitted-small, admitted-utf8)
 
+-- a text that has an admitted place is admitted
+text-of : (x : Admission) (t : Bool) → thenAdmitted A.Refused x (cond t A.Admitted (A.Refused (bareRefusal 3))) ≡ A.Admitted → x ≡ A.Admitted
+text-of A.Admitted t e = refl
+text-of (A.Refused f) t e = e
+
+module _ (s : List ℕ) (i : ℕ) {r : Admission} (q : r ≡ admitPlace s i) (e : r ≡ A.Admitted) where
+  place-admits : admitText s ≡ A.Admitted
+  unfolding admitPlace
+  place-admits = text-of (admitText s) (onCharacter s i) (sym q ∙ e)
+
+  pub place-small : length s ≤ 4096
+  place-small = admitted-small s refl place-admits
+
+  pub place-utf8 : utf8Of s ≡ WellFormed
+  place-utf8 = admitted-utf8 s refl place-admits
+
+pub ruleset placed = (place-small, place-utf8)
+
 -- going on with an admitted text
 module _ {B : Type 0} (x : B) (out : Refusal → B) (t r : Admission) (k : B) (q : r ≡ t) where
   pub admitted-on : r ≡ A.Admitted → x ≡ k → x ≡ thenAdmitted out t k

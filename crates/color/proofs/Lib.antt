@@ -1,0 +1,6 @@
+pub mod Steps
+pub mod Digits
+pub mod Shifts
+pub mod Values
+pub mod Sames
+pub mod Worked

@@ -1,0 +1,20 @@
+use Rattle.stream.proofs.Flows.{flow}
+use Rattle.color.proofs.Steps.{coloured}
+use Rattle.color.specs.Color.{parseColor}
+use borrow.Author.Needs.{needs}
+use Rattle.color.proofs.parse_color.Statement.{statement}
+use Rattle.color.proofs.parse_color.Tie as tie
+
+pub parse-color-spec : {M : Type 1} → statement M
+parse-color-spec =
+    tie.close
+    (tie.spec
+    (λ c κs. search needs)
+    (λ c κs. search needs)
+    (λ c. unfold parseColor in search (flow, coloured, needs) depth 20)
+    (λ c. search needs)
+    (λ c. search needs)
+    (λ c κs. search needs)
+    (λ c. unfold parseColor in search (flow, coloured, needs) depth 20)
+    (λ c κs. search needs)
+    (λ c. unfold parseColor in search (flow, coloured, needs) depth 20))

@@ -1,0 +1,6 @@
+pub mod Steps
+pub mod Quotes
+pub mod Spans
+pub mod Shifts
+pub mod Ends
+pub mod Worked

@@ -1,0 +1,18 @@
+use borrow.Author.Needs.{needs}
+use Rattle.funciri.specs.Answers.{funcIriFromStr}
+use Rattle.stream.proofs.Edges.{edges, admitted-utf8}
+use Rattle.stream.proofs.Flows.{flow}
+use Rattle.funciri.proofs.func_iri_from_str.Statement.{statement}
+use Rattle.funciri.proofs.func_iri_from_str.Tie as tie
+
+pub func-iri-from-str-spec : {M : Type 1} → statement M
+func-iri-from-str-spec =
+    tie.close
+    (tie.spec
+    (λ c κs. search needs)
+    (λ c. search needs)
+    (λ c. search needs)
+    (λ c κs. search needs)
+    (λ c κs. search (admitted-utf8, needs))
+    (λ c. unfold funcIriFromStr in search (flow, edges, needs) depth 20)
+    (λ c. unfold funcIriFromStr in search (flow, edges, needs) depth 20))

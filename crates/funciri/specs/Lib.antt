@@ -1,0 +1,4 @@
+pub mod Link
+pub mod Moves
+pub mod Answers
+pub mod Paper

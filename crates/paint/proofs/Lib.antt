@@ -1,0 +1,4 @@
+pub mod Bases
+pub mod Inside
+pub mod Steps
+pub mod Worked
