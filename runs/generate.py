@@ -1,8 +1,8 @@
 #!/usr/bin/env python3
-"""generate.py KIND COUNT SEED: writes case lines of the line protocol (docs/RUNS.md) to standard output.
+"""generate.py KIND COUNT SEED KEYWORDS: writes case lines of the line protocol (docs/RUNS.md) to standard output.
 
 KIND is a family of cases below, or `all`. COUNT bounds the random families; the others are exhaustive. The same arguments
-give the same lines."""
+give the same lines. KEYWORDS is a table with a colour keyword first on each line."""
 import itertools
 import random
 import sys
