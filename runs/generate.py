@@ -150,6 +150,109 @@ def damaged(r, data):
     return bytes(data)
 
 
+PLAIN = ["brightness", "contrast", "grayscale", "invert", "opacity", "saturate", "sepia"]
+
+
+def offset(r):
+    return r.choice(["0", "1", "2.5", "-3", "4px", "-.5em", "0%", "5%", number(r) + r.choice(UNITS), number(r)])
+
+
+def shadow(r, names):
+    """Two or three lengths with a colour before, after, on both sides or nowhere, and their near misses."""
+    tint = lambda: r.choice(["currentColor", "currentColor", "currentcolor", "red", "#f00", "#12345", "rgb(1,2,3)", "hsl(9,9%,9%)", "rgb(1.,2,3)", colour(r, names), colour(r, names)])
+    gap = lambda: r.choice([" ", " ", " ", "", "  ", "\t", "\n", ","])
+    parts = [offset(r) for _ in range(r.choice([0, 1, 2, 2, 2, 3, 3, 3, 3, 4]))]
+    if r.random() < 0.35:
+        parts.insert(0, tint())
+    if r.random() < 0.45:
+        parts.append(tint())
+    return "".join(p + gap() for p in parts[:-1]) + "".join(parts[-1:])
+
+
+def argument(r, name, names):
+    k = r.random()
+    if k < 0.15:
+        return ""
+    if name == "drop-shadow":
+        return shadow(r, names)
+    if name == "blur":
+        return r.choice(["5", "-0", "5%", "-5%", "1px", "1e", number(r), number(r) + r.choice(UNITS)])
+    if name == "hue-rotate":
+        return r.choice(["0", "-0", "1", "90deg", "1turn", number(r), number(r) + r.choice(ANGLES)])
+    if name == "url":
+        return r.choice(["#a", "#é€b", "#", "a", "#a'b", "# a", "#a b", "#a\tb", "'#a'", "#a(b", "##"])
+    return r.choice(["1", "0.5", "50%", "-0", "-1%", "1 %", number(r), number(r) + "%"])
+
+
+def filter_value(r, names):
+    name = r.choice(PLAIN + ["blur", "blur", "blur", "hue-rotate", "hue-rotate", "drop-shadow", "drop-shadow", "drop-shadow", "drop-shadow", "url", "url"])
+    shown = name if r.random() < 0.97 else r.choice([name.upper(), name.capitalize(), name + "x", name[:-1], "none", "é", "-", "foo"])
+    return shown + r.choice(["", "", "", "", " ", "\t"]) + r.choice(["(", "(", "(", "(", "(", "(", "(", "["]) + spaces(r) + argument(r, name, names) + spaces(r) + r.choice([")"] * 12 + ["", "))"])
+
+
+def filters(r, names):
+    text = spaces(r) + "".join(filter_value(r, names) + spaces(r) for _ in range(r.choice([0, 1, 1, 1, 2, 2, 3, 4, 6])))
+    return text + r.choice([""] * 10 + ["none", "none ", "nonex", "é"])
+
+
+def places(r, data):
+    return r.choice([0] * 12 + [r.randint(0, len(data) + 1), len(data), len(data) + 1, 2**64 - 1])
+
+
+def filter_lists(r, count, names, damage):
+    for _ in range(count):
+        data = filters(r, names).encode()
+        if damage:
+            data = damaged(r, data)
+        yield line("filter", data, places(r, data))
+
+
+def sequences(words, most, before=""):
+    """Steps from place 0 of all sequences of up to `most` words."""
+    for n in range(most + 1):
+        for seq in itertools.product(words, repeat=n):
+            yield line("filter", before + "".join(seq), 0)
+
+
+def filter_short():
+    yield from sequences(["blur(", "sepia(", "url(", ")", "(", " ", "1", "-", "%", "none", "#", "é"], 5)
+    yield from sequences(["1", " ", "-2", "3%", "4px", "red", "currentColor", "rgb(1,2,3)", "1.", "#f00", ")"], 5, "drop-shadow(")
+    yield from sequences(["1 2", " ", "-3", "3%", "-3%", "4", "red", "currentColor", "rgb(1.", ")"], 5, "drop-shadow(1 2")
+    yield from sequences(["0", "1", "-", ".", "e", "deg", "grad", "rad", "turn", "d", " ", ")"], 4, "hue-rotate(")
+    for name in PLAIN + ["blur", "url", "hue-rotate", "drop-shadow", "none", "foo", "Blur", "BLUR", ""]:
+        for arg in ["", " ", "1", "-1", "-0", "0", "50%", "-5%", "1px", "1 2", "#a", "#", "red 1 2", "1 2 3 red", "1.", "x", "\u00e9"]:
+            for shape in ["{}({})", "{} ({})", " {}({}) ", "{}({}", "{}{})", "{}( {} )", "blur() {}({})", "{}({})none", "{}({}) none", "{}({})\u00e9"]:
+                yield line("filter", shape.format(name, arg), 0)
+    for text in ["blur()sepia(\u00e9)", "\u00e9blur()", "url(#\u00e9) blur()", "  none  ", "none x", "blur( ) none", "url(#\u20ac\U0001f600)\tblur()", "drop-shadow(1 2 -3 red) sepia(", "\u3000"]:
+        for place in [*range(len(text.encode()) + 2), 2**64 - 1]:
+            yield line("filter", text, place)
+
+
+def filter_numbers():
+    for n in NUMBERS:
+        for sign in ["", "-", "+", " ", "\t-"]:
+            for unit in UNITS:
+                for shape in ["blur({})", "drop-shadow({} 1)", "drop-shadow(1 {})", "drop-shadow(1 2 {})", "drop-shadow(1 2 {}red)", "drop-shadow(red 1 2 {})", "drop-shadow(1 2 {} currentColor)"]:
+                    yield line("filter", shape.format(sign + n + unit), 0)
+            for unit in ANGLES:
+                yield line("filter", f"hue-rotate({sign + n + unit})", 0)
+            for name in PLAIN:
+                yield line("filter", f"{name}({sign + n})", 0)
+                yield line("filter", f"{name}({sign + n}%)", 0)
+            for shape in ["rgb({},2,3)", "rgb(1,{},3)", "hsl({},1,1)", "rgb(1,2,3,{})"]:
+                yield line("filter", f"drop-shadow({shape.format(sign + n)} 1 2)", 0)
+                yield line("filter", f"drop-shadow(1 2 {shape.format(sign + n)})", 0)
+
+
+def filter_limits(r):
+    for n in [4094, 4095, 4096, 4097]:
+        for t in [b"", b"blur()", b"none", b"url(#a)", b"sepia(", b"foo()", b"blur(\xc3\xa9)"]:
+            rest = n - len(t)
+            for whole in [b" " * rest + t, t + b" " * rest, t * (n // max(1, len(t))), b"url(#" + b"\xc3\xa9" * ((n - 6) // 2) + b")", t + b"x" * rest, b"blur(" + b"0" * (n - 6) + b")"]:
+                for place in [0, len(whole) // 2, max(0, len(whole) - 6), len(whole), len(whole) + 1]:
+                    yield line("filter", whole, place)
+
+
 CALLS = ["color", "length", "lengths", "angle", "iri", "funciri", "paint", "inherit"]
 
 
@@ -281,6 +384,11 @@ def cases(kind, count, seed, names):
         "limits": lambda: limits(r, names),
         "grammar": lambda: grammar(r, count, names, False),
         "damaged": lambda: grammar(r, count, names, True),
+        "filter-short": filter_short,
+        "filter-numbers": filter_numbers,
+        "filter-limits": lambda: filter_limits(r),
+        "filters": lambda: filter_lists(r, count, names, False),
+        "filters-damaged": lambda: filter_lists(r, count, names, True),
     }
     if kind == "all":
         return itertools.chain.from_iterable(cases(k, count, seed, names) for k in families)

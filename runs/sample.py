@@ -7,12 +7,21 @@ import random
 import sys
 
 FEW, LONG, LARGE = 40, 400, 2
-TOLD = set("none em ex px in cm mm pt pc % deg grad rad turn value end refused inherit currentColor context-fill context-stroke color url own parent".split())
+TOLD = set("none em ex px in cm mm pt pc % deg grad rad turn value end refused inherit currentColor context-fill context-stroke color url own parent"
+           " blur drop-shadow brightness contrast grayscale hue-rotate invert opacity sepia saturate".split())
+
+
+def attempts(case, words):
+    """What a shadow's text tells of attempts that were given up: a colour's, a sign's, a percentage's."""
+    place, text = case.split(" ")[1:3]
+    shadow = bytes.fromhex(text.replace("-", ""))[int(place) : int(words[7])] if words[8:9] == ["drop-shadow"] else b""
+    return tuple(w in shadow for w in [b"currentColor", b"rgb", b"-", b"%"]) + (words[-1] == "-",)
 
 
 def kind(case, answer):
     words = answer.split()
-    return (case.split(" ")[0], words[0], " ".join(w for w in words[6:] if w in TOLD))
+    call = case.split(" ")[0]
+    return (call, words[0], " ".join(w for w in words[6:] if w in TOLD), attempts(case, words) if call == "filter" else ())
 
 
 def main(cases, answers, count, seed, stdin, stdout):

@@ -24,7 +24,7 @@ use stream::Place;
 use stream::Refusal;
 
 // Code 0, with nothing told.
-fn put_accepted(out: &mut [u8]) -> usize {
+pub fn put_accepted(out: &mut [u8]) -> usize {
     put_word(out, 0, b"0 0 0 0 0 -")
 }
 
@@ -38,7 +38,7 @@ fn put_where(out: &mut [u8], r: Refusal) -> usize {
 }
 
 // Those, found, wanted and the part of the text found.
-fn put_refusal(out: &mut [u8], r: Refusal, text: &[u8]) -> usize {
+pub fn put_refusal(out: &mut [u8], r: Refusal, text: &[u8]) -> usize {
     let part = r.part;
     let a = put_where(out, r);
     let b = put_field(out, a, r.found as u64);
@@ -66,7 +66,7 @@ pub fn color_line(out: &mut [u8], text: &[u8]) -> usize {
     }
 }
 
-fn put_length(out: &mut [u8], at: usize, l: Length) -> usize {
+pub fn put_length(out: &mut [u8], at: usize, l: Length) -> usize {
     let unit = l.unit;
     let k = put_bits(out, at, l.number);
     match unit {
@@ -119,7 +119,7 @@ pub fn lengths_line(out: &mut [u8], text: &[u8], place: usize) -> usize {
     }
 }
 
-fn put_angle(out: &mut [u8], at: usize, a: Angle) -> usize {
+pub fn put_angle(out: &mut [u8], at: usize, a: Angle) -> usize {
     let unit = a.unit;
     let k = put_bits(out, at, a.number);
     match unit {
@@ -144,7 +144,7 @@ pub fn angle_line(out: &mut [u8], text: &[u8]) -> usize {
     }
 }
 
-fn put_part(out: &mut [u8], at: usize, part: Part) -> usize {
+pub fn put_part(out: &mut [u8], at: usize, part: Part) -> usize {
     let start = part.start;
     let k = put_field(out, at, start.0 as u64);
     put_field(out, k, part.len as u64)

@@ -10,6 +10,7 @@ pub enum Call {
     FuncIri,
     Paint,
     Inherit,
+    Filter,
     Unknown,
 }
 
@@ -62,6 +63,9 @@ fn other_call(word: &[u8]) -> Call {
     }
     if stream::equals(word, b"inherit") {
         return Call::Inherit;
+    }
+    if stream::equals(word, b"filter") {
+        return Call::Filter;
     }
     Call::Unknown
 }

@@ -1,6 +1,7 @@
 // Answers cases: one line in, one line out, by the line protocol of the runs.
 mod answers;
 mod cases;
+mod filters;
 mod out;
 
 use cases::Call;
@@ -24,6 +25,7 @@ fn text_line(out: &mut [u8], call: Call, text: &[u8], place: usize) -> usize {
         Call::Iri => answers::iri_line(out, text),
         Call::FuncIri => answers::func_iri_line(out, text),
         Call::Paint => answers::paint_line(out, text),
+        Call::Filter => filters::filter_line(out, text, place),
         Call::Inherit => 0,
         Call::Unknown => 0,
     }
@@ -89,6 +91,7 @@ fn case_line(out: &mut [u8], line: &[u8]) -> usize {
         Call::Unknown => 0,
         Call::Inherit => two_texts(out, line, end + 1),
         Call::Lengths => placed_text(out, call, line, end + 1),
+        Call::Filter => placed_text(out, call, line, end + 1),
         Call::Color => one_text(out, call, line, end + 1, 0),
         Call::Length => one_text(out, call, line, end + 1, 0),
         Call::Angle => one_text(out, call, line, end + 1, 0),

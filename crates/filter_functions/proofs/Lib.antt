@@ -1,0 +1,5 @@
+pub mod Steps
+pub mod Shifts
+pub mod Values
+pub mod Sames
+pub mod Kept
