@@ -1,7 +1,7 @@
 -- What single calls of filter_functions::next return, on two lists and on both: x and y are what they returned, by its contract.
 use Prim.Native.Nat.{ℕ, _+_, _≤_}
 use mathlib.Core.List.{List, _++_}
-use mathlib.Core.Path.{_≡_, refl, sym, _∙_}
+use mathlib.Core.Path.{_≡_, sym, _∙_}
 use lib.ListN.{length}
 use Rattle.stream.specs.Bytes.{isSpace}
 use Rattle.stream.specs.Characters.{utf8Of, characters}
@@ -9,7 +9,7 @@ use Rattle.stream.specs.Scan.{scan}
 use Rattle.stream.specs.declared.Utf8.the-variants.{WellFormed}
 use Rattle.filter_functions.specs.Filters.{nextFilter}
 use Rattle.filter_functions.specs.declared.FilterStep.{FilterStep}
-use Rattle.joins.specs.Joins.{moveStep, passing, Unchanged, Meets}
+use Rattle.joins.specs.Joins.{moveStep, Unchanged, Meets}
 use Rattle.joins.proofs.Edge.{next-shift, next-more, next-passing, next-seam}
 use Rattle.joins.proofs.Proved.{laws}
 

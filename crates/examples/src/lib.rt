@@ -1,0 +1,1 @@
+// Document 01's marked examples: theorems alone, in specs/ and proofs/.

@@ -1,0 +1,12 @@
+pub mod Written
+pub mod Rfc3629
+pub mod Unicode
+pub mod Ieee754
+pub mod CssValues3
+pub mod CssColor4
+pub mod CssColor3Names
+pub mod CssColor3
+pub mod Domain
+pub mod Colors
+pub mod Svg2
+pub mod FilterEffects1

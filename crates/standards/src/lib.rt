@@ -1,0 +1,1 @@
+// Theorems alone: the readers, held to the public documents.
