@@ -1,0 +1,17 @@
+use Rattle.exports.specs.Records.{angleUnit}
+use borrow.Author.Needs.{needs}
+use Rattle.exports.proofs.rows.angle_unit.Statement.{statement}
+use Rattle.exports.proofs.rows.angle_unit.Tie as tie
+
+pub angle-unit-spec : {M : Type 1} → statement M
+angle-unit-spec =
+    tie.close
+    (tie.spec
+    (λ c. search needs)
+    (λ c. search needs)
+    (λ c. search needs)
+    (λ c. search needs)
+    (λ c. unfold angleUnit in rw (c .enum-told .given .1))
+    (λ c. unfold angleUnit in rw (c .enum-told2 .given .1))
+    (λ c. unfold angleUnit in rw (c .enum-told3 .given .1))
+    (λ c. unfold angleUnit in rw (c .enum-told4 .given .1)))

@@ -1,0 +1,90 @@
+// The C boundary: every outside call. A text is lent as (pointer, length); the answer is written whole into a record of 24 numbers.
+ghost use mathlib.Core.Path.{_≡_};
+ghost use Rattle.exports.specs.Records.{colorRecord, lengthRecord, lengthStepRecord, angleRecord, linkRecord, paintRecord, inheritedRecord, filterRecord};
+ghost use Rattle.angle.specs.Angles as angles;
+ghost use Rattle.color.specs.Answer as colors;
+ghost use Rattle.filter_functions.specs.Filters.{nextFilter};
+ghost use Rattle.funciri.specs.Answers.{iriFromStr, funcIriFromStr};
+ghost use Rattle.length.specs.Lengths as lengths;
+ghost use Rattle.paint.specs.Answers as paints;
+use stream::Place;
+
+mod filters;
+mod records;
+mod rows;
+
+#[no_mangle]
+pub extern "C" fn homeludaf_color(text: &[u8], answer: &mut [u64; 24])
+    ensures { λ _. ⌜ now (answer .exit) ≡ colorRecord (colors.fromStr (now (text .entry))) ⌝ }
+{
+    let r = records::color_record(color::from_str(text));
+    *answer = r;
+}
+
+#[no_mangle]
+pub extern "C" fn homeludaf_length(text: &[u8], answer: &mut [u64; 24])
+    ensures { λ _. ⌜ now (answer .exit) ≡ lengthRecord (lengths.fromStr (now (text .entry))) ⌝ }
+{
+    let r = records::length_record(length::from_str(text));
+    *answer = r;
+}
+
+// One step of a list of lengths, from a list place.
+#[no_mangle]
+pub extern "C" fn homeludaf_length_next(text: &[u8], place: usize, answer: &mut [u64; 24])
+    ensures { λ _. ⌜ now (answer .exit) ≡ lengthStepRecord (lengths.nextLength (now (text .entry)) place) ⌝ }
+{
+    let r = records::length_step_record(length::next(text, Place(place)));
+    *answer = r;
+}
+
+// An angle, with its degrees.
+#[no_mangle]
+pub extern "C" fn homeludaf_angle(text: &[u8], answer: &mut [u64; 24])
+    ensures { λ _. ⌜ now (answer .exit) ≡ angleRecord (angles.fromStr (now (text .entry))) ⌝ }
+{
+    let r = records::angle_record(angle::from_str(text));
+    *answer = r;
+}
+
+#[no_mangle]
+pub extern "C" fn homeludaf_iri(text: &[u8], answer: &mut [u64; 24])
+    ensures { λ _. ⌜ now (answer .exit) ≡ linkRecord (iriFromStr (now (text .entry))) ⌝ }
+{
+    let r = records::link_record(funciri::iri_from_str(text));
+    *answer = r;
+}
+
+#[no_mangle]
+pub extern "C" fn homeludaf_func_iri(text: &[u8], answer: &mut [u64; 24])
+    ensures { λ _. ⌜ now (answer .exit) ≡ linkRecord (funcIriFromStr (now (text .entry))) ⌝ }
+{
+    let r = records::link_record(funciri::func_iri_from_str(text));
+    *answer = r;
+}
+
+#[no_mangle]
+pub extern "C" fn homeludaf_paint(text: &[u8], answer: &mut [u64; 24])
+    ensures { λ _. ⌜ now (answer .exit) ≡ paintRecord (paints.fromStr (now (text .entry))) ⌝ }
+{
+    let r = records::paint_record(paint::from_str(text));
+    *answer = r;
+}
+
+// The inherit rule, over an element's own paint and its parent's.
+#[no_mangle]
+pub extern "C" fn homeludaf_inherited(own: &[u8], parent: &[u8], answer: &mut [u64; 24])
+    ensures { λ _. ⌜ now (answer .exit) ≡ inheritedRecord (paints.inheritedOf (now (own .entry)) (now (parent .entry))) ⌝ }
+{
+    let r = records::inherited_record(paint::inherited(own, parent));
+    *answer = r;
+}
+
+// One step of a list of filter values, from a list place.
+#[no_mangle]
+pub extern "C" fn homeludaf_filter_next(text: &[u8], place: usize, answer: &mut [u64; 24])
+    ensures { λ _. ⌜ now (answer .exit) ≡ filterRecord (nextFilter (now (text .entry)) place) ⌝ }
+{
+    let r = filters::filter_record(filter_functions::next(text, Place(place)));
+    *answer = r;
+}

@@ -1,0 +1,157 @@
+/* Homeludaf's C boundary: SVG colours, lengths, angles, links, paints and filter values, read by proved code.
+ *
+ * A text is a pointer, which is not null, and its length in bytes; it needs no end mark and no promise: one that is too long or not UTF-8 is refused.
+ * Each call fills the whole answer, 24 numbers of 64 bits. The layout is that of crates/exports/specs/Records.antt, which the proofs cite.
+ * Places and parts are counted in bytes of the text, positions in characters from 1. What an answer does not use is 0.
+ */
+#ifndef HOMELUDAF_H
+#define HOMELUDAF_H
+
+#include <stddef.h>
+#include <stdint.h>
+#include <string.h>
+
+#ifdef __cplusplus
+extern "C" {
+#endif
+
+/* why there is no result */
+enum homeludaf_code {
+    HOMELUDAF_OK = 0,
+    HOMELUDAF_TEXT_TOO_LONG = 1,           /* over 4,096 bytes */
+    HOMELUDAF_NOT_UTF8 = 2,                /* tells the place of the first ill-formed sequence */
+    HOMELUDAF_BAD_LIST_PLACE = 3,          /* past the end, or inside a character */
+    HOMELUDAF_UNEXPECTED_END = 4,
+    HOMELUDAF_INVALID_VALUE = 5,
+    HOMELUDAF_UNEXPECTED_DATA = 6,
+    HOMELUDAF_INVALID_CHAR = 7,            /* tells the byte found and the byte wanted */
+    HOMELUDAF_INVALID_STRING = 8,          /* tells the part found */
+    HOMELUDAF_INVALID_NUMBER = 9,
+    HOMELUDAF_NUMBER_OUTSIDE_DOMAIN = 10,
+    HOMELUDAF_PERCENTAGE_VALUE = 11,
+    HOMELUDAF_NEGATIVE_VALUE = 12,
+    HOMELUDAF_INVALID_ANGLE = 13,
+    HOMELUDAF_MISSING_SHADOW_OFFSET = 14,
+    HOMELUDAF_INVALID_URL = 15
+};
+
+/* a step of a list */
+enum homeludaf_state {
+    HOMELUDAF_STATE_VALUE = 0,
+    HOMELUDAF_STATE_END = 1,
+    HOMELUDAF_STATE_NONE = 2,              /* the end, by the word `none` */
+    HOMELUDAF_STATE_REFUSED = 3
+};
+
+enum homeludaf_length_unit {
+    HOMELUDAF_UNIT_NONE = 0,
+    HOMELUDAF_UNIT_EM = 1,
+    HOMELUDAF_UNIT_EX = 2,
+    HOMELUDAF_UNIT_PX = 3,
+    HOMELUDAF_UNIT_IN = 4,
+    HOMELUDAF_UNIT_CM = 5,
+    HOMELUDAF_UNIT_MM = 6,
+    HOMELUDAF_UNIT_PT = 7,
+    HOMELUDAF_UNIT_PC = 8,
+    HOMELUDAF_UNIT_PERCENT = 9
+};
+
+enum homeludaf_angle_unit {
+    HOMELUDAF_ANGLE_DEGREES = 0,
+    HOMELUDAF_ANGLE_GRADIANS = 1,
+    HOMELUDAF_ANGLE_RADIANS = 2,
+    HOMELUDAF_ANGLE_TURNS = 3
+};
+
+enum homeludaf_paint_kind {
+    HOMELUDAF_PAINT_NONE = 1,
+    HOMELUDAF_PAINT_INHERIT = 2,
+    HOMELUDAF_PAINT_CURRENT_COLOR = 3,
+    HOMELUDAF_PAINT_CONTEXT_FILL = 4,
+    HOMELUDAF_PAINT_CONTEXT_STROKE = 5,
+    HOMELUDAF_PAINT_COLOR = 6,
+    HOMELUDAF_PAINT_LINK = 7
+};
+
+enum homeludaf_fallback {
+    HOMELUDAF_FALLBACK_ABSENT = 0,
+    HOMELUDAF_FALLBACK_NONE = 1,
+    HOMELUDAF_FALLBACK_CURRENT_COLOR = 2,
+    HOMELUDAF_FALLBACK_COLOR = 3
+};
+
+enum homeludaf_whose {
+    HOMELUDAF_WHOSE_OWN = 1,
+    HOMELUDAF_WHOSE_PARENT = 2
+};
+
+enum homeludaf_filter_kind {
+    HOMELUDAF_FILTER_BLUR = 1,
+    HOMELUDAF_FILTER_DROP_SHADOW = 2,
+    HOMELUDAF_FILTER_BRIGHTNESS = 3,
+    HOMELUDAF_FILTER_CONTRAST = 4,
+    HOMELUDAF_FILTER_GRAYSCALE = 5,
+    HOMELUDAF_FILTER_HUE_ROTATE = 6,
+    HOMELUDAF_FILTER_INVERT = 7,
+    HOMELUDAF_FILTER_OPACITY = 8,
+    HOMELUDAF_FILTER_SEPIA = 9,
+    HOMELUDAF_FILTER_SATURATE = 10,
+    HOMELUDAF_FILTER_URL = 11
+};
+
+struct homeludaf_rgba { uint64_t red, green, blue, alpha; };
+struct homeludaf_number { uint64_t bits, unit; };      /* homeludaf_double(bits), and a length's or an angle's unit */
+struct homeludaf_part { uint64_t start, length; };
+
+struct homeludaf_answer {
+    uint64_t code;                                     /*  0 enum homeludaf_code */
+    uint64_t position;                                 /*  1 */
+    uint64_t place;                                    /*  2 */
+    uint64_t found;                                    /*  3 */
+    uint64_t wanted;                                   /*  4 */
+    struct homeludaf_part part;                        /*  5,  6 */
+    uint64_t state;                                    /*  7 enum homeludaf_state */
+    uint64_t list_place;                               /*  8 where the next step goes on */
+    union {                                            /*  9 .. 23 */
+        uint64_t entries[15];
+        struct homeludaf_rgba color;
+        struct homeludaf_number length;
+        struct { struct homeludaf_number given; uint64_t degrees_bits; } angle;
+        struct homeludaf_part link;
+        struct { uint64_t kind; struct homeludaf_part link; uint64_t fallback; struct homeludaf_rgba color; } paint;
+        struct { uint64_t whose; struct homeludaf_part part; } inherited;
+        struct {
+            uint64_t kind;                             /* enum homeludaf_filter_kind */
+            union {
+                struct homeludaf_number blur;
+                struct homeludaf_number hue_rotate;
+                uint64_t number_bits;                  /* the seven plain functions */
+                struct homeludaf_part url;
+                struct { struct homeludaf_number dx, dy, deviation; uint64_t colored; struct homeludaf_rgba color; } shadow;
+            } value;
+        } filter;
+    } result;
+};
+
+static inline double homeludaf_double(uint64_t bits)
+{
+    double x;
+    memcpy(&x, &bits, sizeof x);
+    return x;
+}
+
+void homeludaf_color(const uint8_t *text, size_t length, struct homeludaf_answer *answer);
+void homeludaf_length(const uint8_t *text, size_t length, struct homeludaf_answer *answer);
+void homeludaf_length_next(const uint8_t *text, size_t length, size_t place, struct homeludaf_answer *answer);
+void homeludaf_angle(const uint8_t *text, size_t length, struct homeludaf_answer *answer);
+void homeludaf_iri(const uint8_t *text, size_t length, struct homeludaf_answer *answer);
+void homeludaf_func_iri(const uint8_t *text, size_t length, struct homeludaf_answer *answer);
+void homeludaf_paint(const uint8_t *text, size_t length, struct homeludaf_answer *answer);
+void homeludaf_inherited(const uint8_t *own, size_t own_length, const uint8_t *parent, size_t parent_length, struct homeludaf_answer *answer);
+void homeludaf_filter_next(const uint8_t *text, size_t length, size_t place, struct homeludaf_answer *answer);
+
+#ifdef __cplusplus
+}
+#endif
+
+#endif

@@ -1,0 +1,125 @@
+/* Calls the archive through include/homeludaf.h and says what it answers; 0 at the end if each answer is as expected. */
+#include <stdio.h>
+#include "homeludaf.h"
+
+_Static_assert(sizeof(struct homeludaf_answer) == 24 * sizeof(uint64_t), "24 entries");
+_Static_assert(offsetof(struct homeludaf_answer, result) == 9 * sizeof(uint64_t), "the result starts at entry 9");
+_Static_assert(offsetof(struct homeludaf_answer, result.paint.color) == 13 * sizeof(uint64_t), "a paint's colour at 13");
+_Static_assert(offsetof(struct homeludaf_answer, result.filter.value.shadow.colored) == 16 * sizeof(uint64_t), "whether a shadow has a colour at 16");
+
+static int failed = 0;
+
+static void expect(const char *what, int ok)
+{
+    if (!ok) {
+        failed = 1;
+        printf("differs: %s\n", what);
+    }
+}
+
+static void show(const char *what, const struct homeludaf_answer *a)
+{
+    uint64_t e[24];
+    memcpy(e, a, sizeof e);
+    printf("%s:", what);
+    for (int i = 0; i < 24; i++)
+        printf(" %llx", (unsigned long long)e[i]);
+    printf("\n");
+}
+
+#define TEXT(s) (const uint8_t *)(s), sizeof(s) - 1
+
+int main(void)
+{
+    struct homeludaf_answer a;
+
+    memset(&a, 0xff, sizeof a);
+    homeludaf_color(TEXT("rgb(10, 20, 30)"), &a);
+    show("color", &a);
+    expect("color", a.code == HOMELUDAF_OK && a.result.color.red == 10 && a.result.color.green == 20 && a.result.color.blue == 30 && a.result.color.alpha == 255);
+    expect("color, unused entries", a.result.entries[4] == 0 && a.result.entries[14] == 0 && a.state == 0);
+
+    memset(&a, 0xff, sizeof a);
+    homeludaf_color(TEXT("#12345"), &a);
+    show("color refused", &a);
+    expect("color refused", a.code == HOMELUDAF_INVALID_VALUE && a.result.color.alpha == 0);
+
+    memset(&a, 0xff, sizeof a);
+    homeludaf_color((const uint8_t *)"", 0, &a);
+    show("color of nothing", &a);
+    expect("color of nothing", a.code == HOMELUDAF_UNEXPECTED_END);
+
+    memset(&a, 0xff, sizeof a);
+    homeludaf_length(TEXT("1.5em"), &a);
+    show("length", &a);
+    expect("length", a.code == HOMELUDAF_OK && homeludaf_double(a.result.length.bits) == 1.5 && a.result.length.unit == HOMELUDAF_UNIT_EM);
+
+    memset(&a, 0xff, sizeof a);
+    homeludaf_angle(TEXT("0.5turn"), &a);
+    show("angle", &a);
+    expect("angle", a.result.angle.given.unit == HOMELUDAF_ANGLE_TURNS && homeludaf_double(a.result.angle.degrees_bits) == 180.0);
+
+    memset(&a, 0xff, sizeof a);
+    homeludaf_func_iri(TEXT("url(#ab)"), &a);
+    show("func_iri", &a);
+    expect("func_iri", a.code == 0 && a.result.link.start == 5 && a.result.link.length == 2);
+
+    memset(&a, 0xff, sizeof a);
+    homeludaf_iri(TEXT("#ab"), &a);
+    show("iri", &a);
+    expect("iri", a.code == 0 && a.result.link.start == 1 && a.result.link.length == 2);
+
+    memset(&a, 0xff, sizeof a);
+    homeludaf_paint(TEXT("url(#g) #fff"), &a);
+    show("paint", &a);
+    expect("paint", a.result.paint.kind == HOMELUDAF_PAINT_LINK && a.result.paint.link.start == 5 && a.result.paint.link.length == 1
+                        && a.result.paint.fallback == HOMELUDAF_FALLBACK_COLOR && a.result.paint.color.alpha == 255);
+
+    memset(&a, 0xff, sizeof a);
+    homeludaf_inherited(TEXT(" inherit "), TEXT("  red"), &a);
+    show("inherited", &a);
+    expect("inherited", a.result.inherited.whose == HOMELUDAF_WHOSE_PARENT && a.result.inherited.part.start == 2 && a.result.inherited.part.length == 3);
+
+    const char lengths[] = "10 20px, 5%";
+    size_t place = 0;
+    int n = 0;
+    for (;;) {
+        memset(&a, 0xff, sizeof a);
+        homeludaf_length_next(TEXT(lengths), place, &a);
+        show("length_next", &a);
+        place = a.list_place;
+        if (a.state != HOMELUDAF_STATE_VALUE)
+            break;
+        n++;
+    }
+    expect("length_next", n == 3 && a.state == HOMELUDAF_STATE_END && place == sizeof lengths - 1);
+
+    const char filters[] = "blur(2px) drop-shadow(1 2 3 red) opacity(50%) hue-rotate(90deg) url(#x) blur(-1)";
+    uint64_t kinds[] = { HOMELUDAF_FILTER_BLUR, HOMELUDAF_FILTER_DROP_SHADOW, HOMELUDAF_FILTER_OPACITY, HOMELUDAF_FILTER_HUE_ROTATE, HOMELUDAF_FILTER_URL };
+    place = 0;
+    n = 0;
+    for (;;) {
+        memset(&a, 0xff, sizeof a);
+        homeludaf_filter_next(TEXT(filters), place, &a);
+        show("filter_next", &a);
+        place = a.list_place;
+        if (a.state != HOMELUDAF_STATE_VALUE)
+            break;
+        expect("filter kind", n < 5 && a.result.filter.kind == kinds[n]);
+        if (n == 1)
+            expect("shadow", homeludaf_double(a.result.filter.value.shadow.dy.bits) == 2.0 && a.result.filter.value.shadow.colored == 1
+                                 && a.result.filter.value.shadow.color.red == 255 && a.result.filter.value.shadow.color.alpha == 255);
+        if (n == 2)
+            expect("opacity", homeludaf_double(a.result.filter.value.number_bits) == 0.5);
+        n++;
+    }
+    expect("filter_next", n == 5 && a.state == HOMELUDAF_STATE_REFUSED && a.code == HOMELUDAF_NEGATIVE_VALUE && place == sizeof filters - 1);
+
+    memset(&a, 0xff, sizeof a);
+    homeludaf_filter_next(TEXT("none"), 0, &a);
+    show("filter_next none", &a);
+    expect("filter_next none", a.state == HOMELUDAF_STATE_NONE && a.list_place == 4);
+
+    printf(failed ? "not as expected\n" : "all as expected\n");
+    return failed;
+}
