@@ -1,0 +1,83 @@
+//! Angles.
+
+use crate::record::RESULT;
+use crate::{boundary, Error};
+
+/// List of all SVG angle units.
+#[derive(Clone, Copy, PartialEq, Eq, Debug)]
+#[allow(missing_docs)]
+pub enum AngleUnit {
+    Degrees,
+    Gradians,
+    Radians,
+    Turns,
+}
+
+/// Representation of the [`<angle>`] type.
+///
+/// [`<angle>`]: https://www.w3.org/TR/css-values-3/#angles
+#[derive(Clone, Copy, PartialEq, Debug)]
+#[allow(missing_docs)]
+pub struct Angle {
+    pub number: f64,
+    pub unit: AngleUnit,
+}
+
+impl Angle {
+    /// Constructs a new angle.
+    #[inline]
+    pub fn new(number: f64, unit: AngleUnit) -> Self {
+        Self { number, unit }
+    }
+
+    /// Converts angle to degrees.
+    ///
+    /// The proved call gives the degrees of a text alone; an angle may be made by hand, so the rule
+    /// stands here once more. A test holds the two to the same bits.
+    #[inline]
+    pub fn to_degrees(&self) -> f64 {
+        const DEGREES_IN_A_RADIAN: f64 = 57.295_779_513_082_32;
+        match self.unit {
+            AngleUnit::Degrees => self.number,
+            AngleUnit::Gradians => self.number * 180.0 / 200.0,
+            AngleUnit::Radians => self.number * DEGREES_IN_A_RADIAN,
+            AngleUnit::Turns => self.number * 360.0,
+        }
+    }
+}
+
+impl std::str::FromStr for Angle {
+    type Err = Error;
+
+    /// Parses an angle. Units are lower case; spaces may stand before it and not after it.
+    fn from_str(text: &str) -> Result<Self, Error> {
+        let record = boundary::angle(text);
+        if record.is_refused() {
+            return Err(Error::of(&record, text));
+        }
+        Ok(record.angle(RESULT))
+    }
+}
+
+#[cfg(test)]
+mod tests {
+    use crate::boundary;
+    use crate::record::RESULT;
+
+    #[test]
+    fn degrees_are_the_proved_ones() {
+        for number in ["0", "-0", "1", "-1.5", "0.1", "3.3e-7", "123456789", "7e22"] {
+            for unit in ["", "deg", "grad", "rad", "turn"] {
+                let text = format!("{number}{unit}");
+                let record = boundary::angle(&text);
+                assert!(!record.is_refused(), "{text}");
+                let here = record.angle(RESULT).to_degrees();
+                assert_eq!(
+                    here.to_bits(),
+                    record.float(RESULT + 2).to_bits(),
+                    "{text}: {here}"
+                );
+            }
+        }
+    }
+}

@@ -1,0 +1,64 @@
+//! What is accepted is read without allocation.
+
+use std::alloc::{GlobalAlloc, Layout, System};
+use std::cell::Cell;
+use std::hint::black_box;
+use std::str::FromStr;
+
+use homeludaf::{
+    Angle, Color, FilterValueListParser, FuncIRI, Length, LengthListParser, Paint, IRI,
+};
+
+/// The system's allocator, counting the calls of this thread.
+struct Counting;
+
+thread_local! {
+    static COUNT: Cell<usize> = const { Cell::new(0) };
+}
+
+// SAFETY: everything is handed to the system's allocator unchanged.
+unsafe impl GlobalAlloc for Counting {
+    unsafe fn alloc(&self, layout: Layout) -> *mut u8 {
+        COUNT.with(|c| c.set(c.get() + 1));
+        System.alloc(layout)
+    }
+
+    unsafe fn dealloc(&self, pointer: *mut u8, layout: Layout) {
+        System.dealloc(pointer, layout)
+    }
+}
+
+#[global_allocator]
+static ALLOCATOR: Counting = Counting;
+
+fn allocations(work: impl FnOnce()) -> usize {
+    let before = COUNT.with(Cell::get);
+    work();
+    COUNT.with(Cell::get) - before
+}
+
+#[test]
+fn none_on_the_accepting_path() {
+    let count = allocations(|| {
+        for text in [
+            "#fff",
+            "MidnightBlue",
+            "hsl(10, 20%, 30%)",
+            "rgba(1,2,3,.5)",
+            "TEAL",
+        ] {
+            black_box(Color::from_str(text).unwrap());
+        }
+        black_box(Length::from_str("1.5em").unwrap());
+        black_box(Angle::from_str("1rad").unwrap());
+        black_box(IRI::from_str("#a").unwrap());
+        black_box(FuncIRI::from_str("url('#a')").unwrap());
+        black_box(Paint::from_str("url(#a) Teal").unwrap());
+        assert_eq!(LengthListParser::from("1 2 3").count(), 3);
+        let list = FilterValueListParser::from("drop-shadow(1 2 Red) url(#a) blur()");
+        assert_eq!(list.map(Result::unwrap).count(), 3);
+    });
+    assert_eq!(count, 0);
+    // The counter counts.
+    assert_eq!(allocations(|| drop(black_box(Box::new(1)))), 1);
+}

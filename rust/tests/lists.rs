@@ -1,0 +1,109 @@
+//! Lists to their end.
+
+use homeludaf::{
+    Angle, AngleUnit, Color, FilterValue, FilterValueListParser, Length, LengthListParser,
+    LengthUnit,
+};
+
+#[test]
+fn lengths() {
+    let said: Vec<Length> = LengthListParser::from("10 20px, 5%,-.5em")
+        .map(Result::unwrap)
+        .collect();
+    assert_eq!(
+        said,
+        [
+            Length::new_number(10.0),
+            Length::new(20.0, LengthUnit::Px),
+            Length::new(5.0, LengthUnit::Percent),
+            Length::new(-0.5, LengthUnit::Em),
+        ]
+    );
+}
+
+#[test]
+fn filters() {
+    let text = "blur(2px) drop-shadow(1 2 3 red) opacity(50%) hue-rotate(90deg) url(#x)";
+    let said: Vec<FilterValue<'_>> = FilterValueListParser::from(text)
+        .map(Result::unwrap)
+        .collect();
+    assert_eq!(
+        said,
+        [
+            FilterValue::Blur(Length::new(2.0, LengthUnit::Px)),
+            FilterValue::DropShadow {
+                color: Some(Color::red()),
+                dx: Length::new_number(1.0),
+                dy: Length::new_number(2.0),
+                std_dev: Length::new_number(3.0),
+            },
+            FilterValue::Opacity(0.5),
+            FilterValue::HueRotate(Angle::new(90.0, AngleUnit::Degrees)),
+            FilterValue::Url("x"),
+        ]
+    );
+}
+
+#[test]
+fn the_seven_plain_functions() {
+    let text = "brightness() contrast(2)grayscale(3%) invert(.4) opacity(5) sepia(6) saturate(7)";
+    let said: Vec<FilterValue<'_>> = FilterValueListParser::from(text)
+        .map(Result::unwrap)
+        .collect();
+    assert_eq!(
+        said,
+        [
+            FilterValue::Brightness(1.0),
+            FilterValue::Contrast(2.0),
+            FilterValue::Grayscale(0.03),
+            FilterValue::Invert(0.4),
+            FilterValue::Opacity(5.0),
+            FilterValue::Sepia(6.0),
+            FilterValue::Saturate(7.0),
+        ]
+    );
+}
+
+#[test]
+fn a_refusal_ends_the_list() {
+    let mut list = FilterValueListParser::from("blur() blur(-1) blur()");
+    assert!(list.next().unwrap().is_ok());
+    assert!(list.next().unwrap().is_err());
+    assert!(list.next().is_none());
+    assert!(list.next().is_none());
+
+    let mut list = LengthListParser::from("1 2 x 3");
+    assert_eq!(list.by_ref().filter(|l| l.is_ok()).count(), 2);
+    assert!(list.next().is_none());
+}
+
+/// The boundary gives the place of such a list back as it came; the iterator must end all the same.
+#[test]
+fn a_list_that_is_too_long_is_refused_once() {
+    let text = "1 ".repeat(2049);
+    assert_eq!(LengthListParser::from(text.as_str()).count(), 1);
+    let text = "blur() ".repeat(586);
+    assert_eq!(FilterValueListParser::from(text.as_str()).count(), 1);
+}
+
+#[test]
+fn the_longest_lists() {
+    let text = "1 ".repeat(2048);
+    let list = LengthListParser::from(text.as_str());
+    assert_eq!(list.map(|l| l.unwrap().number).sum::<f64>(), 2048.0);
+    let text = "sepia()".repeat(585);
+    let list = FilterValueListParser::from(text.as_str());
+    assert_eq!(list.map(Result::unwrap).count(), 585);
+}
+
+/// As in svgtypes, a parser is copied with its place, and compared by text and place.
+#[test]
+fn parsers_are_values() {
+    let mut list = LengthListParser::from("1 2");
+    let copy = list;
+    assert_eq!(list, copy);
+    list.next();
+    assert_ne!(list, copy);
+    assert_eq!(copy.count(), 2);
+    assert_eq!(list.count(), 1);
+}
