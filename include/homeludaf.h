@@ -1,7 +1,7 @@
 /* Homeludaf's C boundary: SVG colours, lengths, angles, links, paints and filter values, read by proved code.
  *
  * A text is a pointer, which is not null, and its length in bytes; it needs no end mark and no promise: one that is too long or not UTF-8 is refused.
- * Each call fills the whole answer, 24 numbers of 64 bits. The layout is that of crates/exports/specs/Records.antt, which the proofs cite.
+ * Each call fills whole answers, 24 numbers of 64 bits each. The layout is that of crates/exports/specs/Records.antt, which the proofs cite.
  * Places and parts are counted in bytes of the text, positions in characters from 1. What an answer does not use is 0.
  */
 #ifndef HOMELUDAF_H
@@ -133,6 +133,14 @@ struct homeludaf_answer {
     } result;
 };
 
+enum { HOMELUDAF_ENTRIES = 24 };                       /* the numbers of an answer */
+
+/* what a call that hands out many answers tells of them */
+struct homeludaf_told {
+    uint64_t count;                                    /* how many answers were written */
+    uint64_t list_place;                               /* where to go on: the last answer's list place, or the place that was given where there is none */
+};
+
 static inline double homeludaf_double(uint64_t bits)
 {
     double x;
@@ -149,6 +157,12 @@ void homeludaf_func_iri(const uint8_t *text, size_t length, struct homeludaf_ans
 void homeludaf_paint(const uint8_t *text, size_t length, struct homeludaf_answer *answer);
 void homeludaf_inherited(const uint8_t *own, size_t own_length, const uint8_t *parent, size_t parent_length, struct homeludaf_answer *answer);
 void homeludaf_filter_next(const uint8_t *text, size_t length, size_t place, struct homeludaf_answer *answer);
+
+/* Many steps of a list at once, with one test of the text: the answers of the single steps, each from the list place of the one before it, up to and with the
+ * first whose state is not HOMELUDAF_STATE_VALUE, as many as fit. `entries` counts the numbers lent, HOMELUDAF_ENTRIES for each answer; those behind the last
+ * answer stay as they were. `answers` is not null even where `entries` is 0, and `told` lies outside it. */
+void homeludaf_length_all(const uint8_t *text, size_t length, size_t place, struct homeludaf_answer *answers, size_t entries, struct homeludaf_told *told);
+void homeludaf_filter_all(const uint8_t *text, size_t length, size_t place, struct homeludaf_answer *answers, size_t entries, struct homeludaf_told *told);
 
 #ifdef __cplusplus
 }

@@ -3,6 +3,8 @@
 #include "homeludaf.h"
 
 _Static_assert(sizeof(struct homeludaf_answer) == 24 * sizeof(uint64_t), "24 entries");
+_Static_assert(sizeof(struct homeludaf_answer) == HOMELUDAF_ENTRIES * sizeof(uint64_t), "HOMELUDAF_ENTRIES");
+_Static_assert(sizeof(struct homeludaf_told) == 2 * sizeof(uint64_t), "two numbers are told");
 _Static_assert(offsetof(struct homeludaf_answer, result) == 9 * sizeof(uint64_t), "the result starts at entry 9");
 _Static_assert(offsetof(struct homeludaf_answer, result.paint.color) == 13 * sizeof(uint64_t), "a paint's colour at 13");
 _Static_assert(offsetof(struct homeludaf_answer, result.filter.value.shadow.colored) == 16 * sizeof(uint64_t), "whether a shadow has a colour at 16");
@@ -27,7 +29,31 @@ static void show(const char *what, const struct homeludaf_answer *a)
     printf("\n");
 }
 
+typedef void next_call(const uint8_t *, size_t, size_t, struct homeludaf_answer *);
+typedef void all_call(const uint8_t *, size_t, size_t, struct homeludaf_answer *, size_t, struct homeludaf_told *);
+
+/* The answers of `all`, lent `entries` numbers, are those of `next`, one after the other, and what lies behind them is as it was. */
+static void many(const char *what, next_call *next, all_call *all, const char *text, size_t length, size_t start, size_t entries)
+{
+    struct homeludaf_answer got[8], wanted[8];
+    struct homeludaf_told told;
+    size_t place = start, n = 0;
+    memset(got, 0xa5, sizeof got);
+    memset(wanted, 0xa5, sizeof wanted);
+    while (n < entries / HOMELUDAF_ENTRIES) {
+        next((const uint8_t *)text, length, place, &wanted[n]);
+        place = wanted[n].list_place;
+        if (wanted[n++].state != HOMELUDAF_STATE_VALUE)
+            break;
+    }
+    all((const uint8_t *)text, length, start, got, entries, &told);
+    if (start == 0)
+        printf("%s, %zu lent: %llu told, on from %llu\n", what, entries, (unsigned long long)told.count, (unsigned long long)told.list_place);
+    expect(what, told.count == n && told.list_place == place && memcmp(got, wanted, sizeof got) == 0);
+}
+
 #define TEXT(s) (const uint8_t *)(s), sizeof(s) - 1
+#define TEXT_OF(s) (s), sizeof(s) - 1
 
 int main(void)
 {
@@ -119,6 +145,17 @@ int main(void)
     homeludaf_filter_next(TEXT("none"), 0, &a);
     show("filter_next none", &a);
     expect("filter_next none", a.state == HOMELUDAF_STATE_NONE && a.list_place == 4);
+
+    const struct { const char *text; size_t length; } lists[] = {
+        { TEXT_OF(filters) }, { TEXT_OF("none") }, { TEXT_OF("") }, { TEXT_OF("  ") }, { TEXT_OF("blur(2px)\xff") }, { TEXT_OF("url(#\xc3\xa9) sepia()") }, { TEXT_OF(lengths) }, { TEXT_OF("1,2,,3") },
+    };
+    const size_t lent[] = { 0, 23, 24, 49, 72, 8 * 24 };
+    for (size_t i = 0; i < sizeof lists / sizeof lists[0]; i++)
+        for (size_t start = 0; start <= lists[i].length + 1; start++)
+            for (size_t k = 0; k < sizeof lent / sizeof lent[0]; k++) {
+                many("filter_all", homeludaf_filter_next, homeludaf_filter_all, lists[i].text, lists[i].length, start, lent[k]);
+                many("length_all", homeludaf_length_next, homeludaf_length_all, lists[i].text, lists[i].length, start, lent[k]);
+            }
 
     printf(failed ? "not as expected\n" : "all as expected\n");
     return failed;

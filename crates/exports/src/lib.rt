@@ -1,5 +1,6 @@
 // The C boundary: every outside call. A text is lent as (pointer, length); the answer is written whole into a record of 24 numbers.
 ghost use mathlib.Core.Path.{_≡_};
+ghost use Rattle.exports.specs.Many.{fitting, filled, toldOf, filterAt, lengthAt};
 ghost use Rattle.exports.specs.Records.{colorRecord, lengthRecord, lengthStepRecord, angleRecord, linkRecord, paintRecord, inheritedRecord, filterRecord};
 ghost use Rattle.angle.specs.Angles as angles;
 ghost use Rattle.color.specs.Answer as colors;
@@ -10,6 +11,7 @@ ghost use Rattle.paint.specs.Answers as paints;
 use stream::Place;
 
 mod filters;
+mod many;
 mod records;
 mod rows;
 
@@ -87,4 +89,35 @@ pub extern "C" fn homeludaf_filter_next(text: &[u8], place: usize, answer: &mut 
 {
     let r = filters::filter_record(filter_functions::next(text, Place(place)));
     *answer = r;
+}
+
+// The steps of a list of filter values from a list place on: whole records, one after the other, up to and with the first that is no value, as many as fit.
+// Told are how many there are, and the list place to go on from.
+#[no_mangle]
+pub extern "C" fn homeludaf_filter_all(
+    text: &[u8],
+    place: usize,
+    answers: &mut [u64],
+    told: &mut [u64; 2],
+)
+    ensures { λ _. ⌜ now (answers .exit) ≡ filled (fitting (filterAt (now (text .entry))) (now (answers .entry)) place) (now (answers .entry)) ⌝ }
+    ensures { λ _. ⌜ now (told .exit) ≡ toldOf place (fitting (filterAt (now (text .entry))) (now (answers .entry)) place) ⌝ }
+{
+    let t = many::filter_steps(text, place, answers);
+    *told = t;
+}
+
+// The same of a list of lengths.
+#[no_mangle]
+pub extern "C" fn homeludaf_length_all(
+    text: &[u8],
+    place: usize,
+    answers: &mut [u64],
+    told: &mut [u64; 2],
+)
+    ensures { λ _. ⌜ now (answers .exit) ≡ filled (fitting (lengthAt (now (text .entry))) (now (answers .entry)) place) (now (answers .entry)) ⌝ }
+    ensures { λ _. ⌜ now (told .exit) ≡ toldOf place (fitting (lengthAt (now (text .entry))) (now (answers .entry)) place) ⌝ }
+{
+    let t = many::length_steps(text, place, answers);
+    *told = t;
 }

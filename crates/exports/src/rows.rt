@@ -53,23 +53,28 @@ pub fn refused(e: Refusal, state: u64, place: Place) -> [u64; 24]
     whole(e, state, place, [0; 12])
 }
 
-// A result, or the end of a list, which has none.
-pub fn found(state: u64, place: Place, v: [u64; 12]) -> [u64; 24]
-    ensures { λ r. ⌜ r ≡ row (bareRefusal 0) state (place .0) v ⌝ }
+// A refusal that tells its number alone; 0 for none.
+pub fn bare(number: u8) -> Refusal
+    ensures { λ r. ⌜ r ≡ bareRefusal number ⌝ }
 {
-    let part = Part {
-        start: Place(0),
-        len: 0,
-    };
-    let none = Refusal {
-        number: 0,
+    Refusal {
+        number,
         position: Position(0),
         place: Place(0),
         found: 0,
         wanted: 0,
-        part,
-    };
-    whole(none, state, place, v)
+        part: Part {
+            start: Place(0),
+            len: 0,
+        },
+    }
+}
+
+// A result, or the end of a list, which has none.
+pub fn found(state: u64, place: Place, v: [u64; 12]) -> [u64; 24]
+    ensures { λ r. ⌜ r ≡ row (bareRefusal 0) state (place .0) v ⌝ }
+{
+    whole(bare(0), state, place, v)
 }
 
 pub fn ended(state: u64, place: Place) -> [u64; 24]

@@ -1,0 +1,145 @@
+// Many steps of a list at once. The text is admitted once; from then on a list place costs the test of one byte.
+ghost use mathlib.Core.Path.{_≡_};
+ghost use Prim.Native.Nat.{_+_, _≤_};
+ghost use lib.ListN.{length};
+ghost use lib.Seq.{paste};
+ghost use Rattle.stream.specs.Characters.{utf8Of, onCharacter};
+ghost use Rattle.stream.specs.Refusals.{admitText, admitPlace};
+ghost use Rattle.stream.specs.declared.Utf8.the-variants as Utf8;
+ghost use Rattle.filter_functions.specs.Filters.{nextFilter};
+ghost use Rattle.length.specs.Lengths.{nextLength};
+ghost use Rattle.exports.specs.Many.{fitting, filled, toldOf, filterAt, lengthAt};
+use crate::filters;
+use crate::records;
+use crate::rows;
+use filter_functions::FilterStep;
+use filter_functions::StepRead;
+use length::LengthRead;
+use length::LengthStep;
+use stream::Admission;
+use stream::Place;
+
+// A record, written at `at`.
+fn put(out: &mut [u64], at: usize, r: [u64; 24])
+    requires { ⌜ at + 24 ≤ length (now out) ⌝ }
+    ensures { λ _. ⌜ now (out .exit) ≡ paste (now (out .entry)) at r 24 ⌝ }
+{
+    let mut i = 0;
+    while i < 24 {
+        out[at + i] = r[i];
+        i += 1;
+    }
+}
+
+// Whether a UTF-8 text has a character's first byte, or its end, at a place.
+fn on_character(text: &[u8], place: Place) -> bool
+    requires { ⌜ utf8Of (now text) ≡ Utf8.WellFormed ⌝ }
+    ensures { λ r. ⌜ r ≡ onCharacter (now (text .entry)) (place .0) ⌝ }
+{
+    let i = place.0;
+    if i < text.len() {
+        return !stream::is_tail(text[i]);
+    }
+    i == text.len()
+}
+
+// Whether a list may be read from a place of a text whose admission is known: what `stream::admit_place` answers.
+fn admit(text: &[u8], admission: Admission, place: Place) -> Admission
+    requires { ⌜ admission ≡ admitText (now text) ⌝ }
+    ensures { λ r. ⌜ r ≡ admitPlace (now (text .entry)) (place .0) ⌝ }
+{
+    match admission {
+        Admission::Refused(e) => Admission::Refused(e),
+        Admission::Admitted => {
+            if on_character(text, place) {
+                Admission::Admitted
+            } else {
+                Admission::Refused(rows::bare(3))
+            }
+        }
+    }
+}
+
+// What `filter_functions::next` answers.
+fn filter_step(text: &[u8], admission: Admission, place: Place) -> FilterStep
+    requires { ⌜ admission ≡ admitText (now text) ⌝ }
+    ensures { λ r. ⌜ r ≡ nextFilter (now (text .entry)) (place .0) ⌝ }
+{
+    match admit(text, admission, place) {
+        Admission::Refused(e) => FilterStep::Refused(e, place),
+        Admission::Admitted => {
+            let end = text.len();
+            match filter_functions::parse_step(text, place) {
+                StepRead::Value(v, p) => FilterStep::Value(v, p),
+                StepRead::End => FilterStep::End(Place(end)),
+                StepRead::NoneWord => FilterStep::NoneWord(Place(end)),
+                StepRead::Refused(e) => {
+                    FilterStep::Refused(stream::refusal_of(text, e), Place(end))
+                }
+            }
+        }
+    }
+}
+
+// What `length::next` answers.
+fn length_step(text: &[u8], admission: Admission, place: Place) -> LengthStep
+    requires { ⌜ admission ≡ admitText (now text) ⌝ }
+    ensures { λ r. ⌜ r ≡ nextLength (now (text .entry)) (place .0) ⌝ }
+{
+    match admit(text, admission, place) {
+        Admission::Refused(e) => LengthStep::Refused(e, place),
+        Admission::Admitted => {
+            let i = place.0;
+            let end = text.len();
+            if end <= i {
+                return LengthStep::End(Place(end));
+            }
+            match length::parse_list_length(text, place) {
+                LengthRead::Refused(e) => {
+                    LengthStep::Refused(stream::refusal_of(text, e), Place(end))
+                }
+                LengthRead::Value(l, _, p) => LengthStep::Value(l, p),
+            }
+        }
+    }
+}
+
+pub fn filter_steps(text: &[u8], place: usize, answers: &mut [u64]) -> [u64; 2]
+    ensures { λ _. ⌜ now (answers .exit) ≡ filled (fitting (filterAt (now (text .entry))) (now (answers .entry)) place) (now (answers .entry)) ⌝ }
+    ensures { λ r. ⌜ r ≡ toldOf place (fitting (filterAt (now (text .entry))) (now (answers .entry)) place) ⌝ }
+{
+    let admission = stream::admit_text(text);
+    let room = answers.len() / 24;
+    let mut n = 0;
+    let mut at = place;
+    while n < room {
+        let r = filters::filter_record(filter_step(text, admission, Place(at)));
+        put(answers, n * 24, r);
+        n += 1;
+        at = r[8] as usize;
+        if r[7] != 0 {
+            return [n as u64, at as u64];
+        }
+    }
+    [n as u64, at as u64]
+}
+
+pub fn length_steps(text: &[u8], place: usize, answers: &mut [u64]) -> [u64; 2]
+    ensures { λ _. ⌜ now (answers .exit) ≡ filled (fitting (lengthAt (now (text .entry))) (now (answers .entry)) place) (now (answers .entry)) ⌝ }
+    ensures { λ r. ⌜ r ≡ toldOf place (fitting (lengthAt (now (text .entry))) (now (answers .entry)) place) ⌝ }
+{
+    let admission = stream::admit_text(text);
+    let room = answers.len() / 24;
+    let mut n = 0;
+    let mut at = place;
+    while n < room {
+        let r = records::length_step_record(length_step(text, admission, Place(at)));
+        put(answers, n * 24, r);
+        n += 1;
+        at = r[8] as usize;
+        if r[7] != 0 {
+            return [n as u64, at as u64];
+        }
+    }
+    [n as u64, at as u64]
+}
