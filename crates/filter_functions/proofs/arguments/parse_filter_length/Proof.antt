@@ -1,0 +1,19 @@
+use Rattle.stream.proofs.Flows.{picks}
+use Rattle.length.proofs.Steps.{lengthed}
+use Rattle.filter_functions.specs.Values.{parseFilterLength}
+use borrow.Author.Needs.{needs}
+use Rattle.filter_functions.proofs.arguments.parse_filter_length.Statement.{statement}
+use Rattle.filter_functions.proofs.arguments.parse_filter_length.Tie as tie
+
+pub parse-filter-length-spec : {M : Type 1} → statement M
+parse-filter-length-spec =
+    tie.close
+    (tie.spec
+    (λ c κs. search needs)
+    (λ c. search needs)
+    (λ c. search needs)
+    (λ c κs. search needs)
+    (λ c κs. search needs)
+    (λ c. unfold parseFilterLength in search (picks, lengthed, needs) depth 20)
+    (λ c. unfold parseFilterLength in search (picks, lengthed, needs) depth 20)
+    (λ c. unfold parseFilterLength in search (picks, lengthed, needs) depth 20))
