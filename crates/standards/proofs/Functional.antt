@@ -1,19 +1,18 @@
 -- CSS Color 3's functional notations are what the reader of colours reads, whatever follows them.
-use Prim.Native.Nat.{ℕ, _+_, _-_, _<_}
-use mathlib.Core.Bool.{Bool, true, false, cond, not, _&&_, _||_}
+use Prim.Native.Nat.{ℕ, _+_, _<_}
+use mathlib.Core.Bool.{Bool, true, false, cond, not, _||_}
 use mathlib.Core.List.{List, [], _∷_, _++_, append-assoc}
 use mathlib.Core.Path.{_≡_, refl, ap, _∙_}
 use native.Mathlib.Omega.{arith}
-use lib.Dec.{T, eqb, eqb→eq}
+use lib.Dec.{T, eqb}
 use lib.Ieee.{Float}
 use lib.Ieee.Bits.{is-false}
-use lib.Ieee.Fits.{and-l, and-r}
 use lib.ListN.{length, getD, length-append, length-map}
 use Rattle.stream.specs.Bytes.{isSpace, isLower, within}
 use Rattle.stream.specs.Faults.{place, parseListSeparator}
 use Rattle.stream.specs.Flow.{bind}
 use Rattle.stream.specs.Scan.{scan}
-use Rattle.stream.specs.Words.{ascii, same, lowerOf, lowered}
+use Rattle.stream.specs.Words.{ascii, same, lowerOf}
 use Rattle.stream.specs.declared.Place.{Place}
 use Rattle.stream.proofs.Ranges.{allFrom, across}
 use Rattle.numbers.specs.Moves.{thenNumber}
@@ -29,12 +28,13 @@ use Rattle.color.specs.declared.ColorRead.{ColorRead}
 use Rattle.color.specs.declared.ColorRead.the-variants as C
 use Rattle.standards.specs.Ieee754.{double}
 use Rattle.standards.specs.CssValues3.{Blank, space, tab, line-feed, return, blank, blanks, Number, number, exactly, percentage}
-use Rattle.standards.specs.CssColor3.{Spelling, done, small, capital, spelling, Integer, asNumber, integer, Spaced, spaced, Rgb, integers, percentages, Hsl, rgb-values, hsl-values, Functional, functional, channel, percent}
+use Rattle.standards.specs.CssColor3.{Spelling, spelling, Integer, asNumber, integer, Spaced, spaced, Rgb, integers, percentages, Hsl, rgb-values, hsl-values, Functional, functional, channel, percent}
 use Rattle.standards.specs.CssColor3 as K
 use Rattle.standards.specs.Domain.{InDomain, RgbInDomain, HslInDomain, AllInDomain}
 use Rattle.standards.proofs.Reading.{Ends, ends-comma, ends-bracket, ends-percent, ends-blank, NumbersRead, number-there, percent-there}
 use Rattle.standards.proofs.Runs.{every, number-first}
 use Rattle.standards.proofs.Cursors.{At, at-step, at-blanks, at-spaces, at-byte, at-curr, at-other, at-more, at-drop, curr-not}
+use Rattle.standards.proofs.Spellings.{spelled-lower}
 use Rattle.standards.proofs.Colours.{letters, word-first}
 use Rattle.standards.proofs.Clipped.{portion, integer-channel, percent-channel}
 
@@ -213,23 +213,8 @@ module _ (r : NumbersRead) where
         then-gives (list-percent-reads r y yo comma g) _ (λ w o j g.
         then-gives (list-percent-reads r z zo e g) _ (λ w o j g. tail j g))))
 
--- a name of letters, small and capital, is in lower case the small ones
-abbrev lettered : List ℕ → Bool
-lettered [] = true
-lettered (c ∷ n) = eqb (lowerOf c) c && (eqb (lowerOf (c - 32)) c && lettered n)
-
-spelled-lower : {n : List ℕ} (w : Spelling n) → T (lettered n) → lowered (spelling w) ≡ n
-unfolding spelling
-spelled-lower done t = refl
-spelled-lower (small c {n} w) t =
-    let u = and-r (eqb (lowerOf (c - 32)) c) (lettered n) (and-r (eqb (lowerOf c) c) _ t) in
-    simp (eqb→eq (lowerOf c) c (and-l (eqb (lowerOf c) c) _ t), spelled-lower w u)
-spelled-lower (capital c {n} w) t =
-    let u = and-r (eqb (lowerOf c) c) _ t in
-    simp (eqb→eq (lowerOf (c - 32)) c (and-l (eqb (lowerOf (c - 32)) c) _ u), spelled-lower w (and-r (eqb (lowerOf (c - 32)) c) (lettered n) u))
-
 -- a name and `(`: which of the two readers goes on, at the bracket
-module _ {c : ℕ} {n : List ℕ} (w : Spelling (c ∷ n)) (t : T (lettered (c ∷ n))) (more : List ℕ) where
+module _ {c : ℕ} {n : List ℕ} (w : Spelling (c ∷ n)) (l : every isLower (c ∷ n) ≡ true) (more : List ℕ) where
   abbrev call : List ℕ
   call = spelling w ++ (40 ∷ more)
 
@@ -239,20 +224,20 @@ module _ {c : ℕ} {n : List ℕ} (w : Spelling (c ∷ n)) (t : T (lettered (c �
   opened : At call opens (40 ∷ more)
   opened = record { before = spelling w; text = refl; here = refl }
 
-  named : every isLower (c ∷ n) ≡ true → parseColor call 0 ≡ cond (isRgb (spelling w)) (parseRgb call opens) (cond (isHsl (spelling w)) (parseHsl call opens) (namedColor (spelling w) opens))
+  named : parseColor call 0 ≡ cond (isRgb (spelling w)) (parseRgb call opens) (cond (isHsl (spelling w)) (parseHsl call opens) (namedColor (spelling w) opens))
   unfolding within
-  named l =
-      let k : 0 < opens = omega (arith, length-map (spelling w) lowerOf, ap length (spelled-lower w t)) in
-      word-first (spelling w) (40 ∷ more) (letters (spelling w) (rw (spelled-lower w t) l)) k refl
+  named =
+      let k : 0 < opens = omega (arith, length-map (spelling w) lowerOf, ap length (spelled-lower w l)) in
+      word-first (spelling w) (40 ∷ more) (letters (spelling w) (rw (spelled-lower w l) l)) k refl
 
-  rgb-word : every isLower (c ∷ n) ≡ true → (same (c ∷ n) (ascii "rgb") || same (c ∷ n) (ascii "rgba")) ≡ true → parseColor call 0 ≡ parseRgb call opens
+  rgb-word : (same (c ∷ n) (ascii "rgb") || same (c ∷ n) (ascii "rgba")) ≡ true → parseColor call 0 ≡ parseRgb call opens
   unfolding isRgb
-  rgb-word l e = named l ∙ simp (spelled-lower w t, e)
+  rgb-word e = named ∙ simp (spelled-lower w l, e)
 
-  hsl-word : every isLower (c ∷ n) ≡ true → (same (c ∷ n) (ascii "rgb") || same (c ∷ n) (ascii "rgba")) ≡ false → (same (c ∷ n) (ascii "hsl") || same (c ∷ n) (ascii "hsla")) ≡ true
+  hsl-word : (same (c ∷ n) (ascii "rgb") || same (c ∷ n) (ascii "rgba")) ≡ false → (same (c ∷ n) (ascii "hsl") || same (c ∷ n) (ascii "hsla")) ≡ true
       → parseColor call 0 ≡ parseHsl call opens
   unfolding isRgb isHsl
-  hsl-word l d e = named l ∙ simp (spelled-lower w t, d, e)
+  hsl-word d e = named ∙ simp (spelled-lower w l, d, e)
 
 -- The colour of a notation: an integer is clipped as the document says; what a percentage, an alpha and a hue come to is the reader's, of the doubles nearest to what is written.
 abbrev pub rgb-colour : Rgb → Color
@@ -298,23 +283,23 @@ ended text call rest c q g =
 
 -- THEOREM. Every text of the four notations, its numbers in the domain, is read as its colour, and reading goes on right after its bracket, whatever follows.
 pub functional-read : NumbersRead → (t : Functional) → AllInDomain t → (rest : List ℕ) → parseColor (functional t ++ rest) 0 ≡ C.Value (colour t) (place (length (functional t)))
-unfolding functional lowerOf within same
+unfolding functional within same
 functional-read r (K.rgb w t) ok rest =
     let more = rgb-values t ++ (41 ∷ rest) in
-    ended (functional (K.rgb w t)) (call w tt more) rest (rgb-colour t) (simp append-assoc)
-    (rw (rgb-word w tt more refl refl) (rgb-gives r bracket _ _ t ok (opened w tt more) (λ j g. opaque-gives _ g)))
+    ended (functional (K.rgb w t)) (call w refl more) rest (rgb-colour t) (simp append-assoc)
+    (rw (rgb-word w refl more refl) (rgb-gives r bracket _ _ t ok (opened w refl more) (λ j g. opaque-gives _ g)))
 functional-read r (K.rgba w t a) ok rest =
     let more = rgb-values t ++ (44 ∷ (spaced number a ++ (41 ∷ rest))) in
-    ended (functional (K.rgba w t a)) (call w tt more) rest (faded (rgb-colour t) a) (simp append-assoc)
-    (rw (rgb-word w tt more refl refl) (rgb-gives r comma _ _ t (ok .0) (opened w tt more) (λ j g. alpha-gives r a (ok .1) (rgb-colour t) g)))
+    ended (functional (K.rgba w t a)) (call w refl more) rest (faded (rgb-colour t) a) (simp append-assoc)
+    (rw (rgb-word w refl more refl) (rgb-gives r comma _ _ t (ok .0) (opened w refl more) (λ j g. alpha-gives r a (ok .1) (rgb-colour t) g)))
 functional-read r (K.hsl w t) ok rest =
     let more = hsl-values t ++ (41 ∷ rest) in
-    ended (functional (K.hsl w t)) (call w tt more) rest (hsl-colour t) (simp append-assoc)
-    (rw (hsl-word w tt more refl refl refl) (hsl-all r bracket _ _ t ok (opened w tt more) (λ j g. opaque-gives _ g)))
+    ended (functional (K.hsl w t)) (call w refl more) rest (hsl-colour t) (simp append-assoc)
+    (rw (hsl-word w refl more refl refl) (hsl-all r bracket _ _ t ok (opened w refl more) (λ j g. opaque-gives _ g)))
 functional-read r (K.hsla w t a) ok rest =
     let more = hsl-values t ++ (44 ∷ (spaced number a ++ (41 ∷ rest))) in
-    ended (functional (K.hsla w t a)) (call w tt more) rest (faded (hsl-colour t) a) (simp append-assoc)
-    (rw (hsl-word w tt more refl refl refl) (hsl-all r comma _ _ t (ok .0) (opened w tt more) (λ j g. alpha-gives r a (ok .1) (hsl-colour t) g)))
+    ended (functional (K.hsla w t a)) (call w refl more) rest (faded (hsl-colour t) a) (simp append-assoc)
+    (rw (hsl-word w refl more refl refl) (hsl-all r comma _ _ t (ok .0) (opened w refl more) (λ j g. alpha-gives r a (ok .1) (hsl-colour t) g)))
 
 -- THEOREM. Of whole percentages, rgb() is read as the whole numbers nearest to 255 hundredths of them, clipped to 0 .. 255.
 pub whole-percentages-read : NumbersRead → (w : Spelling (ascii "rgb")) (x y z : Spaced Integer) → RgbInDomain (integers x y z) → (rest : List ℕ)

@@ -56,14 +56,14 @@ unfolding keywords own.keywords same
 same-line k l = same-eq (ours k) (theirs k) (tested (λ j. same (ours j) (theirs j)) tt k l)
 
 -- the words that begin a function
-abbrev isFunction : List ℕ → Bool
+abbrev pub isFunction : List ℕ → Bool
 isFunction n = (same n (ascii "rgb") || same n (ascii "rgba")) || (same n (ascii "hsl") || same n (ascii "hsla"))
 
 -- a name: small letters, at least one, and no function's
-abbrev isName : List ℕ → Bool
+abbrev pub isName : List ℕ → Bool
 isName n = every isLower n && (ltb 0 (length n) && not (isFunction n))
 
-is-name : (k : ℕ) → k < length keywords → isName (ascii (keyword k .name)) ≡ true
+pub is-name : (k : ℕ) → k < length keywords → isName (ascii (keyword k .name)) ≡ true
 unfolding keywords same within
 is-name k l = tested (λ j. isName (ascii (keyword j .name))) tt k l
 

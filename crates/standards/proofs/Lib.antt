@@ -9,6 +9,7 @@ pub mod Runs
 pub mod Cursors
 pub mod Reading
 pub mod Numbers
+pub mod Spellings
 pub mod Colours
 pub mod Hex
 pub mod Keywords

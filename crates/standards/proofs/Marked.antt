@@ -9,7 +9,7 @@ use lib.Dec.{lit≤}
 use lib.Ieee.{binary64, round, units, odd, eq, ofBits}
 use lib.Ieee.Scale.{round-same}
 use lib.ListN.{length, getD, length-append}
-use Rattle.stream.specs.Bytes.{within, isSpace}
+use Rattle.stream.specs.Bytes.{within, isSpace, isAsciiIdent}
 use Rattle.stream.specs.Faults.{place}
 use Rattle.stream.specs.Flow.{bind}
 use Rattle.floats.specs.Floats.{d0, signOf}
@@ -79,6 +79,15 @@ closes-stops (gapped space r) = record { ends = ends-blank r space; letter = ref
 closes-stops (gapped tab r) = record { ends = ends-blank r tab; letter = refl; mark = refl }
 closes-stops (gapped line-feed r) = record { ends = ends-blank r line-feed; letter = refl; mark = refl }
 closes-stops (gapped return r) = record { ends = ends-blank r return; letter = refl; mark = refl }
+
+-- no word goes on there
+pub closes-word : {b : List ℕ} → Closes b → isAsciiIdent (getD b 0 0) ≡ false
+unfolding within blank
+closes-word (shut r) = refl
+closes-word (gapped space r) = refl
+closes-word (gapped tab r) = refl
+closes-word (gapped line-feed r) = refl
+closes-word (gapped return r) = refl
 
 mark-ends : (u : LengthMark) {b : List ℕ} → Closes b → Ends (lengthMark u ++ b)
 unfolding lengthMark

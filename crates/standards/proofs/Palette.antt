@@ -14,17 +14,16 @@ use Rattle.stream.specs.Bytes.{within, isLower, isHexDigit, isSpace, isAsciiIde
 use Rattle.stream.specs.Faults.{place}
 use Rattle.stream.specs.Flow.{bind}
 use Rattle.stream.specs.Scan.{scan, run}
-use Rattle.stream.specs.Words.{ascii, lowerOf, lowered}
+use Rattle.stream.specs.Words.{ascii}
 use Rattle.stream.proofs.Octets.{and-first, and-second}
-use Rattle.stream.proofs.Ranges.{either, le-or-lt, within-high, within-ge, within-le, allFrom, across}
+use Rattle.stream.proofs.Ranges.{either, le-or-lt, within-high, within-ge, within-le, allFrom}
 use Rattle.numbers.specs.Number.{startsNumber}
-use Rattle.names.proofs.Tables.{holds-true}
 use Rattle.color.specs.Answer.{fromStr}
 use Rattle.color.specs.Color.{rgba, parseColor, parseColorText}
 use Rattle.color.specs.declared.Color.{Color}
 use Rattle.color.specs.declared.ColorRead.the-variants as C
 use Rattle.color.specs.declared.ColorAnswer.the-variants as A
-use Rattle.standards.specs.CssValues3.{Blank, blank, blanks, space, tab, line-feed, return, Number, number, percentage}
+use Rattle.standards.specs.CssValues3.{Blank, blanks, Number, number, percentage}
 use Rattle.standards.specs.CssColor3 as K
 use Rattle.standards.specs.CssColor3.{Spelling, done, small, capital, spelling, integer, Spaced, spaced, Rgb, integers, percentages, Hsl, rgb-values, hsl-values, Functional, functional}
 use Rattle.standards.specs.CssColor3Names.{keywords}
@@ -34,11 +33,12 @@ use Rattle.standards.specs.Colors.{line, Colour, hex, keyword, transpare
 use Rattle.standards.proofs.Numbers.{numbers-read}
 use Rattle.standards.proofs.Runs.{every, every-map, blanks-end, Ascii, ascii-append, blanks-ascii, number-ascii}
 use Rattle.standards.proofs.Tight.{Tight, tight-around}
+use Rattle.standards.proofs.Spellings.{in-range, at-letter, spelled-lower}
 use Rattle.standards.proofs.Colours.{color-text}
 use Rattle.standards.proofs.Hex as H
-use Rattle.standards.proofs.Keywords.{how-many, names-read, names-transparent}
+use Rattle.standards.proofs.Keywords.{isFunction, is-name, names-read, names-transparent}
 use Rattle.standards.proofs.Functional as F
-use Rattle.standards.proofs.Marked.{Closes, shut, gapped}
+use Rattle.standards.proofs.Marked.{closes-word}
 use Rattle.standards.proofs.Paints as P
 use Rattle.standards.proofs.Shadows as S
 
@@ -49,33 +49,13 @@ channels (keyword k h w) = rgba (line k .red) (line k .green) (line k .blue) 255
 channels (transparent w) = rgba 0 0 0 0
 channels (function t d) = F.colour t
 
--- a test that holds of the bytes lo to lo + n - 1
-in-range : (t : ℕ → Bool) (lo n : ℕ) → T (allFrom t lo n) → (b : ℕ) → lo ≤ b → b < lo + n → t b ≡ true
-in-range t lo n h b p q = sym (holds-true (t b) (across t lo n h b p q))
-
--- a small letter, and the capital that stands 32 before it
-at-letter : (t : ℕ → Bool) → T (allFrom t 97 26) → (c : ℕ) → isLower c ≡ true → t c ≡ true
-at-letter t h c e = in-range t 97 26 h c (omega (arith, within-ge 97 122 c (sym e))) (omega (arith, within-le 97 122 c (sym e)))
-
-lower-small : (c : ℕ) → isLower c ≡ true → lowerOf c ≡ c
-unfolding lowerOf within
-lower-small c e = eqb-true (lowerOf c) c (at-letter (λ b. eqb (lowerOf b) b) tt c e)
-
-lower-capital : (c : ℕ) → isLower c ≡ true → lowerOf (c - 32) ≡ c
-unfolding lowerOf within
-lower-capital c e = eqb-true (lowerOf (c - 32)) c (at-letter (λ b. eqb (lowerOf (b - 32)) b) tt c e)
-
--- a name of small letters, in letters of either case
-spelled-lower : {n : List ℕ} (w : Spelling n) → every isLower n ≡ true → lowered (spelling w) ≡ n
-unfolding spelling every
-spelled-lower done e = refl
-spelled-lower (small c {n} w) e = simp (lower-small c (and-first (isLower c) (every isLower n) e), spelled-lower w (and-second (isLower c) (every isLower n) e))
-spelled-lower (capital c {n} w) e = simp (lower-capital c (and-first (isLower c) (every isLower n) e), spelled-lower w (and-second (isLower c) (every isLower n) e))
-
--- the keywords are such names
-is-name : (k : ℕ) → k < length keywords → (every isLower (ascii (line k .name)) && ltb 0 (length (ascii (line k .name)))) ≡ true
-unfolding keywords every within
-is-name k l = in-range (λ j. every isLower (ascii (line j .name)) && ltb 0 (length (ascii (line j .name)))) 0 147 tt k (omega arith) (omega (arith, how-many))
+-- the keywords are names of small letters
+letters-of : (k : ℕ) → k < length keywords → (every isLower (ascii (line k .name)) && ltb 0 (length (ascii (line k .name)))) ≡ true
+letters-of k l =
+    let n = ascii (line k .name) in
+    let e = is-name k l in
+    let r = and-second (every isLower n) (ltb 0 (length n) && not (isFunction n)) e in
+    simp (and-first (every isLower n) (ltb 0 (length n) && not (isFunction n)) e, and-first (ltb 0 (length n)) (not (isFunction n)) r)
 
 -- Bytes that are seen, from `!` to `~`; and those that a colour starts with: `#`, and from `A` to `z`
 abbrev isSeen : ℕ → Bool
@@ -213,14 +193,14 @@ functional-first (K.hsla w t a) rest = rw append-assoc (spelled-first w refl _)
 pub colour-tight : (t : Colour) → Tight (colour t)
 unfolding colour every within
 colour-tight (hex t) = hex-tight t
-colour-tight (keyword k h w) = spelled-tight w (is-name k h)
+colour-tight (keyword k h w) = spelled-tight w (letters-of k h)
 colour-tight (transparent w) = spelled-tight w refl
 colour-tight (function t d) = functional-tight t
 
 colour-first : (t : Colour) (rest : List ℕ) → isFirst (getD (colour t ++ rest) 0 0) ≡ true
 unfolding colour every within
 colour-first (hex t) rest = refl
-colour-first (keyword k h w) rest = spelled-first w (is-name k h) rest
+colour-first (keyword k h w) rest = spelled-first w (letters-of k h) rest
 colour-first (transparent w) rest = spelled-first w refl rest
 colour-first (function t d) rest = functional-first t rest
 
@@ -238,7 +218,7 @@ unfolding colour every within
 colour-read (hex t) rest e =
     let n : length (hexText t) ≡ 1 + length (X.digits t) = omega (arith, length-map (X.digits t) X.character) in
     rw n (H.hex-read t rest (no-digit (getD rest 0 0) e))
-colour-read (keyword k h w) rest e = names-read k h (spelling w) rest (spelled-lower w (letters w (is-name k h))) e
+colour-read (keyword k h w) rest e = names-read k h (spelling w) rest (spelled-lower w (letters w (letters-of k h))) e
 colour-read (transparent w) rest e = names-transparent (spelling w) rest (spelled-lower w refl) e
 colour-read (function t d) rest e = F.functional-read numbers-read t d rest
 
@@ -263,14 +243,6 @@ pub paint-colours : P.Coloured colour channels
 paint-colours = record { read = alone-read; tight = colour-tight }
 
 -- the colours of a shadow
-closes-word : {b : List ℕ} → Closes b → isAsciiIdent (getD b 0 0) ≡ false
-unfolding within blank
-closes-word (shut r) = refl
-closes-word (gapped space r) = refl
-closes-word (gapped tab r) = refl
-closes-word (gapped line-feed r) = refl
-closes-word (gapped return r) = refl
-
 first-other : (p : ℕ → Bool) → p 35 ≡ false → T (allFrom (λ b. not (p b)) 65 58) → (x : ℕ) → isFirst x ≡ true → p x ≡ false
 first-other p z h x e =
     either (eqb x 35) (λ q. rw (eqb-true x 35 q) z)

@@ -38,14 +38,14 @@ use Rattle.filter_functions.specs.Shadow.{tryParseColor, parseDeviation, parseS
 use Rattle.filter_functions.specs.declared.FilterValue.{FilterValue}
 use Rattle.filter_functions.specs.declared.ShadowColor.{ShadowColor}
 use Rattle.filter_functions.specs.declared.ShadowColor.the-variants as O
-use Rattle.standards.specs.CssValues3.{Blank, blank, blanks, space, tab, line-feed, return, isMinus, number, isInteger}
+use Rattle.standards.specs.CssValues3.{Blank, blanks, isMinus, number, isInteger}
 use Rattle.standards.specs.Domain.{InDomain}
 use Rattle.standards.specs.FilterEffects1 as E
 use Rattle.standards.specs.FilterEffects1.{CssLength, cssLength, Measure, measure, Offsets, two, three, offsets, gap}
 use Rattle.standards.proofs.Reading.{NumbersRead}
 use Rattle.standards.proofs.Cursors.{At, at-step, at-blanks, at-read, at-spaces, at-other, at-still, at-drop, at-get, at-more, starts-joined, no-word, differs}
-use Rattle.standards.proofs.Runs.{Ascii, First}
-use Rattle.standards.proofs.Marked.{Closes, shut, gapped, closes-after, unitMarked, lengthOf, nought-is, positive, first-space, length-at, length-first, no-percent}
+use Rattle.standards.proofs.Runs.{run-every, Ascii, First}
+use Rattle.standards.proofs.Marked.{Closes, gapped, closes-after, closes-word, unitMarked, lengthOf, nought-is, positive, first-space, length-at, length-first, no-percent}
 
 -- What `parseNext`, `tryParseColor` and others answer has no name outside their crate: that it is the value v with the place j is that one goes on with these, whatever one does
 abbrev pub Gives : ((B : Type 0) → (Fault → B) → (FilterValue → Place → B) → B) → FilterValue → ℕ → Type 1
@@ -150,14 +150,6 @@ module _ {s : List ℕ} {i : ℕ} where
   none-there {b} l h B out missing k = simp (low-refused l h, at-drop h, no-word 99 (ascii "urrentColor") b (ne-eqb (getD b 0 0) 99 (λ e. omega (arith, l .low))))
 
 -- `currentColor` names no colour, and is tried after those
-closes-word : {b : List ℕ} → Closes b → run isAsciiIdent b ≡ 0
-unfolding run within blank
-closes-word (shut r) = refl
-closes-word (gapped space r) = refl
-closes-word (gapped tab r) = refl
-closes-word (gapped line-feed r) = refl
-closes-word (gapped return r) = refl
-
 abbrev current : List ℕ
 current = ascii "currentColor"
 
@@ -167,7 +159,7 @@ current-unknown = refl
 
 current-front : {b : List ℕ} → Closes b → parseColor (current ++ b) 0 ≡ C.Refused (invalidValue 12)
 unfolding parseColor parseWord isRgb isHsl namedColor part bind scan run within same lowerOf
-current-front {b} c = simp (closes-word c, current-unknown, lt-leb (length (current ++ b)) 0 (omega arith))
+current-front {b} c = simp (run-every isAsciiIdent [] b refl (closes-word c), current-unknown, lt-leb (length (current ++ b)) 0 (omega arith))
 
 module _ {Colour : Type 0} {colour : Colour → List ℕ} {channels : Colour → Color} (coloured : Coloured colour channels) where
   tint-begins : (c : E.Tint Colour) (b : List ℕ) → Begins (getD (E.tintText colour c ++ b) 0 0)
