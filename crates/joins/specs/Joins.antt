@@ -2,7 +2,7 @@
 -- out A's values unchanged, then all that B answers alone, moved. A list of n bytes hands out at most n/6 values." And of demand 1: "A filter list
 -- that refuses a value is at its end from then on."
 -- The statements are of any step `next`; proofs/Proved.antt has them of `nextFilter`, which is all that filter_functions::next answers.
--- Left out: which values a list has, which is for `nextFilter` to say (a step that always ends would meet `Join`); lists that end by `none` (`none`
+-- Left out: which values a list has, which is for `nextFilter` to say (a step that ends at once at the end of the text would meet `Join`); lists that end by `none` (`none`
 -- followed by anything but spaces is 5) or with a refusal (what follows is not looked at).
 use Prim.Native.Nat.{ℕ, zero, suc, _+_, _≤_, _/_}
 use mathlib.Core.Bool.{cond}
