@@ -1,7 +1,8 @@
 //! Angles.
 
+use crate::boundary::{self, Room};
 use crate::record::RESULT;
-use crate::{boundary, Error};
+use crate::Error;
 
 /// List of all SVG angle units.
 #[derive(Clone, Copy, PartialEq, Eq, Debug)]
@@ -51,9 +52,10 @@ impl std::str::FromStr for Angle {
 
     /// Parses an angle. Units are lower case; spaces may stand before it and not after it.
     fn from_str(text: &str) -> Result<Self, Error> {
-        let record = boundary::angle(text);
+        let mut room = Room::new();
+        let record = boundary::angle(text, &mut room);
         if record.is_refused() {
-            return Err(Error::of(&record, text));
+            return Err(Error::of(record, text));
         }
         Ok(record.angle(RESULT))
     }
@@ -61,7 +63,7 @@ impl std::str::FromStr for Angle {
 
 #[cfg(test)]
 mod tests {
-    use crate::boundary;
+    use crate::boundary::{self, Room};
     use crate::record::RESULT;
 
     #[test]
@@ -69,7 +71,8 @@ mod tests {
         for number in ["0", "-0", "1", "-1.5", "0.1", "3.3e-7", "123456789", "7e22"] {
             for unit in ["", "deg", "grad", "rad", "turn"] {
                 let text = format!("{number}{unit}");
-                let record = boundary::angle(&text);
+                let mut room = Room::new();
+                let record = boundary::angle(&text, &mut room);
                 assert!(!record.is_refused(), "{text}");
                 let here = record.angle(RESULT).to_degrees();
                 assert_eq!(

@@ -3,6 +3,9 @@
 //! The declarations are those of include/homeludaf.h. They need nothing of the text but that the
 //! pointer and the length belong together; every sequence of bytes has an answer.
 
+use std::mem::MaybeUninit;
+use std::slice;
+
 use crate::record::{Record, ENTRIES};
 
 extern "C" {
@@ -12,65 +15,156 @@ extern "C" {
     fn homeludaf_iri(text: *const u8, length: usize, answer: *mut u64);
     fn homeludaf_func_iri(text: *const u8, length: usize, answer: *mut u64);
     fn homeludaf_paint(text: *const u8, length: usize, answer: *mut u64);
-    fn homeludaf_length_next(text: *const u8, length: usize, place: usize, answer: *mut u64);
-    fn homeludaf_filter_next(text: *const u8, length: usize, place: usize, answer: *mut u64);
+    fn homeludaf_length_all(
+        text: *const u8,
+        length: usize,
+        place: usize,
+        answers: *mut u64,
+        entries: usize,
+        told: *mut u64,
+    );
+    fn homeludaf_filter_all(
+        text: *const u8,
+        length: usize,
+        place: usize,
+        answers: *mut u64,
+        entries: usize,
+        told: *mut u64,
+    );
 }
 
 /// A function that reads a whole text; only those declared above are ever handed over.
 type Whole = unsafe extern "C" fn(*const u8, usize, *mut u64);
 
-/// A function that reads a list's step at a place; only those declared above are ever handed over.
-type Step = unsafe extern "C" fn(*const u8, usize, usize, *mut u64);
+/// A function that reads steps of a list; only those declared above are ever handed over.
+type Many = unsafe extern "C" fn(*const u8, usize, usize, *mut u64, usize, *mut u64);
+
+/// Room for records, which a call fills: neither set to zero before nor copied after.
+pub(crate) struct Room<const N: usize>([MaybeUninit<Record>; N]);
+
+impl<const N: usize> Room<N> {
+    #[inline(always)]
+    pub(crate) fn new() -> Self {
+        Room([const { MaybeUninit::uninit() }; N])
+    }
+}
 
 #[inline(always)]
-fn whole(call: Whole, text: &str) -> Record {
-    let mut entries = [0; ENTRIES];
+fn whole<'r>(call: Whole, text: &str, room: &'r mut Room<1>) -> &'r Record {
     // SAFETY: pointer and length are those of one `&str`, which is never null and lives through
     // the call; the callee only reads it and keeps neither pointer (proved: the text is lent as
-    // `&[u8]`). The answer is an array of ours, of the length that the callee fills (proved: it is
-    // lent as `&mut [u64; 24]`), and overlaps no text, since it was made here. The callee is safe
-    // and ends on every input (proved: its contract has no `requires`), and does not unwind.
-    unsafe { call(text.as_ptr(), text.len(), entries.as_mut_ptr()) };
-    Record(entries)
+    // `&[u8]`). The answer is a record of ours and overlaps no text, since it is lent to us alone.
+    // The callee fills all of it and nothing else (proved: it is lent as `&mut [u64; 24]`, and the
+    // contract gives every entry), so that it may be read after the call. The callee is safe and
+    // ends on every input (proved: its contract has no `requires`), and does not unwind.
+    unsafe {
+        call(text.as_ptr(), text.len(), room.0.as_mut_ptr().cast());
+        room.0[0].assume_init_ref()
+    }
 }
 
 #[inline(always)]
-fn step(call: Step, text: &str, place: usize) -> Record {
-    let mut entries = [0; ENTRIES];
+fn many<'r, const N: usize>(
+    call: Many,
+    text: &str,
+    place: usize,
+    room: &'r mut Room<N>,
+) -> &'r [Record] {
+    let answers = room.0.as_mut_ptr();
+    let mut told = [0; 2];
     // SAFETY: as in `whole`. The place is a number and no pointer: one past the end, or inside a
-    // character, is refused (proved).
-    unsafe { call(text.as_ptr(), text.len(), place, entries.as_mut_ptr()) };
-    Record(entries)
+    // character, is refused (proved). The room is lent as a slice of all its numbers; the callee
+    // fills whole records from its start on and tells their count (proved), which never is more
+    // than there is room for, so that as many records may be read after the call.
+    unsafe {
+        call(
+            text.as_ptr(),
+            text.len(),
+            place,
+            answers.cast(),
+            N * ENTRIES,
+            told.as_mut_ptr(),
+        );
+        slice::from_raw_parts(answers.cast(), N.min(told[0] as usize))
+    }
 }
 
-pub(crate) fn color(text: &str) -> Record {
-    whole(homeludaf_color, text)
+macro_rules! calls {
+    ($($name:ident => $call:ident),*) => {$(
+        #[inline]
+        pub(crate) fn $name<'r>(text: &str, room: &'r mut Room<1>) -> &'r Record {
+            whole($call, text, room)
+        }
+    )*};
 }
 
-pub(crate) fn length(text: &str) -> Record {
-    whole(homeludaf_length, text)
+calls! {
+    color => homeludaf_color,
+    length => homeludaf_length,
+    angle => homeludaf_angle,
+    iri => homeludaf_iri,
+    func_iri => homeludaf_func_iri,
+    paint => homeludaf_paint
 }
 
-pub(crate) fn angle(text: &str) -> Record {
-    whole(homeludaf_angle, text)
+/// The steps of a list of lengths from a place on, up to the first that is no value; as many as
+/// there is room for.
+#[inline]
+pub(crate) fn lengths<'r, const N: usize>(
+    text: &str,
+    place: usize,
+    room: &'r mut Room<N>,
+) -> &'r [Record] {
+    many(homeludaf_length_all, text, place, room)
 }
 
-pub(crate) fn iri(text: &str) -> Record {
-    whole(homeludaf_iri, text)
+/// The same of a list of filter values.
+#[inline]
+pub(crate) fn filters<'r, const N: usize>(
+    text: &str,
+    place: usize,
+    room: &'r mut Room<N>,
+) -> &'r [Record] {
+    many(homeludaf_filter_all, text, place, room)
 }
 
-pub(crate) fn func_iri(text: &str) -> Record {
-    whole(homeludaf_func_iri, text)
+/// Values that were read before they were asked for, the first of them to be handed out next.
+#[derive(Clone, Copy)]
+pub(crate) struct Ahead<T: Copy, const N: usize> {
+    values: [MaybeUninit<T>; N],
+    next: u8,
+    end: u8,
 }
 
-pub(crate) fn paint(text: &str) -> Record {
-    whole(homeludaf_paint, text)
-}
+impl<T: Copy, const N: usize> Ahead<T, N> {
+    #[inline(always)]
+    pub(crate) fn new() -> Self {
+        Ahead {
+            values: [MaybeUninit::uninit(); N],
+            next: 0,
+            end: 0,
+        }
+    }
 
-pub(crate) fn length_next(text: &str, place: usize) -> Record {
-    step(homeludaf_length_next, text, place)
-}
+    /// Keeps the first `N` of some values, in the place of what was kept.
+    #[inline]
+    pub(crate) fn keep(&mut self, values: impl Iterator<Item = T>) {
+        self.next = 0;
+        self.end = 0;
+        for (slot, value) in self.values.iter_mut().zip(values) {
+            slot.write(value);
+            self.end += 1;
+        }
+    }
 
-pub(crate) fn filter_next(text: &str, place: usize) -> Record {
-    step(homeludaf_filter_next, text, place)
+    #[inline]
+    pub(crate) fn take(&mut self) -> Option<T> {
+        if self.next == self.end {
+            return None;
+        }
+        let value = &self.values[usize::from(self.next)];
+        self.next += 1;
+        // SAFETY: `keep` writes the slots below `end`, and nothing else sets `end` or `next`.
+        Some(unsafe { value.assume_init() })
+    }
 }

@@ -1,7 +1,8 @@
 //! Colours.
 
+use crate::boundary::{self, Room};
 use crate::record::RESULT;
-use crate::{boundary, Error};
+use crate::Error;
 
 /// Representation of the [`<color>`] type.
 ///
@@ -76,9 +77,10 @@ impl std::str::FromStr for Color {
     /// Parses a [CSS3](https://www.w3.org/TR/css-color-3/) colour, with or without alpha; also hex
     /// notation of four and eight digits.
     fn from_str(text: &str) -> Result<Self, Error> {
-        let record = boundary::color(text);
+        let mut room = Room::new();
+        let record = boundary::color(text, &mut room);
         if record.is_refused() {
-            return Err(Error::of(&record, text));
+            return Err(Error::of(record, text));
         }
         Ok(record.color(RESULT))
     }

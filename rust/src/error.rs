@@ -120,14 +120,23 @@ impl Error {
     }
 
     /// The error of a refused record.
-    #[cold]
+    #[inline]
     pub(crate) fn of(record: &Record, text: &str) -> Self {
+        match record.number() {
+            4 => Error::UnexpectedEndOfStream,
+            5 => Error::InvalidValue,
+            6 => Error::UnexpectedData(record.position()),
+            9 => Error::InvalidNumber(record.position()),
+            _ => Error::with_texts(record, text),
+        }
+    }
+
+    /// The errors that tell bytes or texts, and so allocate.
+    #[cold]
+    fn with_texts(record: &Record, text: &str) -> Self {
         let position = record.position();
         match record.number() {
             1 => Error::InvalidString(TOO_LONG.map(String::from).into(), position),
-            4 => Error::UnexpectedEndOfStream,
-            5 => Error::InvalidValue,
-            6 => Error::UnexpectedData(position),
             7 => Error::InvalidChar(record.found_and_wanted().into(), position),
             8 => Error::InvalidString(
                 [record.found_part(text), LINK_START]
@@ -135,7 +144,6 @@ impl Error {
                     .into(),
                 position,
             ),
-            9 => Error::InvalidNumber(position),
             10 => Error::InvalidString(OUTSIDE.map(String::from).into(), position),
             other => foreign("refusal", other),
         }

@@ -2,10 +2,11 @@
 
 use std::fmt;
 
+use crate::boundary;
 use crate::error::Refusal;
 use crate::list::Walk;
 use crate::record::{foreign, Record, RESULT};
-use crate::{boundary, Angle, Color, Error, Length};
+use crate::{Angle, Color, Error, Length};
 
 /// Representation of the [`<filter-function>`] | [`<url>`] type.
 ///
@@ -187,9 +188,10 @@ impl std::error::Error for FilterValueListParserError {
 ///
 /// [`<filter-value-list>`]: https://www.w3.org/TR/filter-effects-1/#typedef-filter-value-list
 #[derive(Clone, Copy, PartialEq, Eq, Debug)]
-pub struct FilterValueListParser<'a>(Walk<'a>);
+pub struct FilterValueListParser<'a>(Walk<'a, FilterValue<'a>, 16>);
 
 impl<'a> From<&'a str> for FilterValueListParser<'a> {
+    #[inline]
     fn from(text: &'a str) -> Self {
         FilterValueListParser(Walk::new(text))
     }
@@ -198,13 +200,22 @@ impl<'a> From<&'a str> for FilterValueListParser<'a> {
 impl<'a> Iterator for FilterValueListParser<'a> {
     type Item = Result<FilterValue<'a>, FilterValueListParserError>;
 
+    #[inline]
     fn next(&mut self) -> Option<Self::Item> {
-        let record = self.0.next(boundary::filter_next)?;
-        let text = self.0.text();
-        Some(if record.is_refused() {
-            Err(FilterValueListParserError::of(&record, text))
-        } else {
-            Ok(FilterValue::of(&record, text))
-        })
+        if let Some(value) = self.0.take() {
+            return Some(Ok(value));
+        }
+        self.read()
+    }
+}
+
+impl<'a> FilterValueListParser<'a> {
+    /// Reads further values, and hands out the first.
+    fn read(&mut self) -> Option<Result<FilterValue<'a>, FilterValueListParserError>> {
+        self.0.read(
+            boundary::filters,
+            FilterValue::of,
+            FilterValueListParserError::of,
+        )
     }
 }

@@ -1,7 +1,8 @@
 //! Links.
 
+use crate::boundary::{self, Room};
 use crate::record::{Record, RESULT};
-use crate::{boundary, Error};
+use crate::Error;
 
 /// Representation of the [`<IRI>`] type: `#link`.
 ///
@@ -15,7 +16,7 @@ impl<'a> IRI<'a> {
     /// Not by the `FromStr` trait, which wants an owned value.
     #[allow(clippy::should_implement_trait)]
     pub fn from_str(text: &'a str) -> Result<Self, Error> {
-        link(boundary::iri(text), text).map(Self)
+        link(boundary::iri(text, &mut Room::new()), text).map(Self)
     }
 }
 
@@ -31,13 +32,14 @@ impl<'a> FuncIRI<'a> {
     /// Not by the `FromStr` trait, which wants an owned value.
     #[allow(clippy::should_implement_trait)]
     pub fn from_str(text: &'a str) -> Result<Self, Error> {
-        link(boundary::func_iri(text), text).map(Self)
+        link(boundary::func_iri(text, &mut Room::new()), text).map(Self)
     }
 }
 
-fn link(record: Record, text: &str) -> Result<&str, Error> {
+#[inline(always)]
+fn link<'a>(record: &Record, text: &'a str) -> Result<&'a str, Error> {
     if record.is_refused() {
-        return Err(Error::of(&record, text));
+        return Err(Error::of(record, text));
     }
     Ok(record.part(RESULT, text))
 }

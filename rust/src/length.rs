@@ -1,8 +1,9 @@
 //! Lengths and lists of lengths.
 
+use crate::boundary::{self, Room};
 use crate::list::Walk;
-use crate::record::RESULT;
-use crate::{boundary, Error};
+use crate::record::{Record, RESULT};
+use crate::Error;
 
 /// List of all SVG length units.
 #[derive(Clone, Copy, PartialEq, Eq, Debug)]
@@ -64,9 +65,10 @@ impl std::str::FromStr for Length {
 
     /// Parses a length. Units are lower case; spaces may stand before it and not after it.
     fn from_str(text: &str) -> Result<Self, Error> {
-        let record = boundary::length(text);
+        let mut room = Room::new();
+        let record = boundary::length(text, &mut room);
         if record.is_refused() {
-            return Err(Error::of(&record, text));
+            return Err(Error::of(record, text));
         }
         Ok(record.length(RESULT))
     }
@@ -86,7 +88,7 @@ impl std::str::FromStr for Length {
 ///
 /// [`<list-of-length>`]: https://www.w3.org/TR/SVG2/types.html#InterfaceSVGLengthList
 #[derive(Clone, Copy, PartialEq, Eq, Debug)]
-pub struct LengthListParser<'a>(Walk<'a>);
+pub struct LengthListParser<'a>(Walk<'a, Length, 32>);
 
 impl<'a> From<&'a str> for LengthListParser<'a> {
     #[inline]
@@ -98,12 +100,19 @@ impl<'a> From<&'a str> for LengthListParser<'a> {
 impl Iterator for LengthListParser<'_> {
     type Item = Result<Length, Error>;
 
+    #[inline]
     fn next(&mut self) -> Option<Self::Item> {
-        let record = self.0.next(boundary::length_next)?;
-        Some(if record.is_refused() {
-            Err(Error::of(&record, self.0.text()))
-        } else {
-            Ok(record.length(RESULT))
-        })
+        if let Some(length) = self.0.take() {
+            return Some(Ok(length));
+        }
+        self.read()
+    }
+}
+
+impl LengthListParser<'_> {
+    /// Reads further lengths, and hands out the first.
+    fn read(&mut self) -> Option<Result<Length, Error>> {
+        let value = |record: &Record, _: &str| record.length(RESULT);
+        self.0.read(boundary::lengths, value, Error::of)
     }
 }

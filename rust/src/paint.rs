@@ -1,7 +1,8 @@
 //! Paints.
 
+use crate::boundary::{self, Room};
 use crate::record::{foreign, RESULT};
-use crate::{boundary, Color, Error};
+use crate::{Color, Error};
 
 /// Representation of the fallback part of the [`<paint>`] type.
 ///
@@ -72,9 +73,10 @@ impl<'a> Paint<'a> {
     /// Not by the `FromStr` trait, which wants an owned value.
     #[allow(clippy::should_implement_trait)]
     pub fn from_str(text: &'a str) -> Result<Self, Error> {
-        let record = boundary::paint(text);
+        let mut room = Room::new();
+        let record = boundary::paint(text, &mut room);
         if record.is_refused() {
-            return Err(Error::of(&record, text));
+            return Err(Error::of(record, text));
         }
         Ok(match record.kind(KIND) {
             1 => Paint::None,

@@ -12,6 +12,8 @@ pub(crate) const ENTRIES: usize = 24;
 pub(crate) const RESULT: usize = 9;
 
 /// An answer as it came over the boundary.
+#[derive(Clone, Copy)]
+#[repr(transparent)]
 pub(crate) struct Record(pub(crate) [u64; ENTRIES]);
 
 impl Record {

@@ -96,6 +96,32 @@ fn the_longest_lists() {
     assert_eq!(list.map(Result::unwrap).count(), 585);
 }
 
+/// Values are read in advance, some at a time: no count of them is special, and what follows the
+/// last is told once.
+#[test]
+fn lists_of_every_count() {
+    for count in 0..70 {
+        for (tail, refused) in [("", 0), (" x", 1), (" none", 0), (" none x", 1)] {
+            let text = "sepia(1) ".repeat(count) + tail;
+            let read: Vec<bool> = FilterValueListParser::from(text.as_str())
+                .map(|value| value.is_ok())
+                .collect();
+            assert_eq!(read.iter().filter(|ok| **ok).count(), count, "{text:?}");
+            assert_eq!(read.len(), count + refused, "{text:?}");
+            assert!(read[..count].iter().all(|ok| *ok), "{text:?}");
+        }
+        let text = "7,".repeat(count) + "x";
+        let read: Vec<bool> = LengthListParser::from(text.as_str())
+            .map(|value| value.is_ok())
+            .collect();
+        assert_eq!(read.len(), count + 1, "{text:?}");
+        assert!(
+            read[..count].iter().all(|ok| *ok) && !read[count],
+            "{text:?}"
+        );
+    }
+}
+
 /// As in svgtypes, a parser is copied with its place, and compared by text and place.
 #[test]
 fn parsers_are_values() {
@@ -106,4 +132,14 @@ fn parsers_are_values() {
     assert_ne!(list, copy);
     assert_eq!(copy.count(), 2);
     assert_eq!(list.count(), 1);
+
+    let text = "blur(1)".repeat(40);
+    let mut walked = FilterValueListParser::from(text.as_str());
+    for taken in 0..40 {
+        let mut other = FilterValueListParser::from(text.as_str());
+        assert_eq!(other.by_ref().take(taken).count(), taken);
+        assert_eq!(walked, other, "after {taken}");
+        assert_eq!(walked.count(), 40 - taken);
+        assert!(walked.next().is_some());
+    }
 }

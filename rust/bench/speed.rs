@@ -1,0 +1,182 @@
+//! Both crates in one process on the same texts: `cargo bench` prints the tables of docs/SPEED.md.
+//!
+//! A round reads every text of a class once with each crate, the one that goes first changing from
+//! round to round. The ratio is taken within a round, and the median of the ratios is told: what
+//! slows the machine down for a while slows both. Times are those of the fastest round.
+
+mod texts;
+
+use std::hint::black_box;
+use std::time::Instant;
+
+use texts::Class;
+
+/// How often a class is read in one round, so that a round takes about a tenth of a millisecond.
+const ROUND_NS: f64 = 100_000.0;
+
+/// Rounds of each class; `HOMELUDAF_ROUNDS` says otherwise.
+const ROUNDS: usize = 2_001;
+
+/// What a text is read as.
+#[derive(Clone, Copy)]
+enum Kind {
+    Color,
+    Paint,
+    Length,
+    Lengths,
+    Angle,
+    Link,
+    Filters,
+}
+
+/// A text, and what it is read as.
+type Text = (Kind, String);
+
+/// How many values were read and how many were refused: both crates must tell the same.
+type Told = (usize, usize);
+
+macro_rules! reader {
+    ($name:ident, $from:ident) => {
+        mod $name {
+            use super::{black_box, Kind, Text, Told};
+            use std::str::FromStr;
+            use $from::{Angle, Color, FilterValueListParser, FuncIRI};
+            use $from::{Length, LengthListParser, Paint};
+
+            #[inline(always)]
+            fn one<T, E>(told: &mut Told, read: Result<T, E>) {
+                match black_box(read) {
+                    Ok(_) => told.0 += 1,
+                    Err(_) => told.1 += 1,
+                }
+            }
+
+            fn all<T, E>(told: &mut Told, list: impl Iterator<Item = Result<T, E>>) {
+                for read in list {
+                    one(told, read);
+                }
+            }
+
+            pub fn read(texts: &[Text]) -> Told {
+                let mut told = (0, 0);
+                for (kind, text) in texts {
+                    let text = black_box(text.as_str());
+                    match kind {
+                        Kind::Color => one(&mut told, Color::from_str(text)),
+                        Kind::Paint => one(&mut told, Paint::from_str(text)),
+                        Kind::Length => one(&mut told, Length::from_str(text)),
+                        Kind::Lengths => all(&mut told, LengthListParser::from(text)),
+                        Kind::Angle => one(&mut told, Angle::from_str(text)),
+                        Kind::Link => one(&mut told, FuncIRI::from_str(text)),
+                        Kind::Filters => all(&mut told, FilterValueListParser::from(text)),
+                    }
+                }
+                told
+            }
+        }
+    };
+}
+
+reader!(ours, homeludaf);
+reader!(theirs, svgtypes);
+
+/// Nanoseconds for one reading of all texts, from `times` readings.
+fn timed(read: fn(&[Text]) -> Told, class: &Class, times: usize) -> f64 {
+    let start = Instant::now();
+    for _ in 0..times {
+        black_box(read(black_box(&class.texts)));
+    }
+    start.elapsed().as_nanos() as f64 / times as f64
+}
+
+/// What was measured of a class: nanoseconds for one reading, and ours over theirs.
+struct Measured {
+    ours: f64,
+    theirs: f64,
+    ratio: f64,
+}
+
+fn measure(class: &Class, rounds: usize) -> Measured {
+    assert_eq!(
+        ours::read(&class.texts),
+        theirs::read(&class.texts),
+        "class {}: the crates disagree",
+        class.name
+    );
+    let times = (ROUND_NS / timed(theirs::read, class, 10)).max(1.0) as usize;
+    let mut told = Measured {
+        ours: f64::MAX,
+        theirs: f64::MAX,
+        ratio: 0.0,
+    };
+    let mut ratios = Vec::with_capacity(rounds);
+    for round in 0..rounds {
+        let (a, b);
+        if round % 2 == 0 {
+            a = timed(ours::read, class, times);
+            b = timed(theirs::read, class, times);
+        } else {
+            b = timed(theirs::read, class, times);
+            a = timed(ours::read, class, times);
+        }
+        told.ours = told.ours.min(a);
+        told.theirs = told.theirs.min(b);
+        ratios.push(a / b);
+    }
+    ratios.sort_by(f64::total_cmp);
+    told.ratio = ratios[rounds / 2];
+    told
+}
+
+fn classes(rounds: usize) {
+    println!("| Class | Texts | Bytes | homeludaf, ns a text | svgtypes, ns a text | Median ratio | Ratio of minima |");
+    println!("|---|---|---|---|---|---|---|");
+    let mut logs = 0.0;
+    let all = texts::classes();
+    for class in &all {
+        let m = measure(class, rounds);
+        let texts = class.texts.len() as f64;
+        println!(
+            "| {} | {} | {} | {:.1} | {:.1} | {:.2} | {:.2} |",
+            class.name,
+            class.texts.len(),
+            class.bytes(),
+            m.ours / texts,
+            m.theirs / texts,
+            m.ratio,
+            m.ours / m.theirs
+        );
+        logs += m.ratio.ln();
+    }
+    println!();
+    println!(
+        "Geometric mean of the median ratios: {:.2}",
+        (logs / all.len() as f64).exp()
+    );
+}
+
+fn growth(rounds: usize) {
+    println!();
+    println!("| List | Bytes | homeludaf, ns a byte | svgtypes, ns a byte |");
+    println!("|---|---|---|---|");
+    for class in texts::growing() {
+        let m = measure(&class, rounds);
+        let bytes = class.bytes() as f64;
+        println!(
+            "| {} | {} | {:.2} | {:.2} |",
+            class.name,
+            class.bytes(),
+            m.ours / bytes,
+            m.theirs / bytes
+        );
+    }
+}
+
+fn main() {
+    let rounds = match std::env::var("HOMELUDAF_ROUNDS") {
+        Ok(said) => said.parse().expect("HOMELUDAF_ROUNDS is a number"),
+        Err(_) => ROUNDS,
+    };
+    classes(rounds);
+    growth(rounds);
+}
