@@ -1,5 +1,5 @@
 -- What a word names: the laws of the definition.
-use Prim.Native.Nat.{ℕ, zero, suc, _<_}
+use Prim.Native.Nat.{ℕ, zero, suc, _≤_, _<_}
 use mathlib.Core.Bool.{false}
 use mathlib.Core.List.{List, [], _∷_}
 use mathlib.Core.Path.{_≡_, refl, sym, ap, _∙_}
@@ -11,7 +11,7 @@ use Rattle.stream.specs.Bytes.{within}
 use Rattle.stream.proofs.Ranges.{either, within-ge, within-le}
 use Rattle.names.specs.Keywords.{Keyword, entry, keywords}
 use Rattle.names.specs.Look.{channels, lookUp, namedOf}
-use Rattle.names.specs.Search.{nth}
+use Rattle.names.specs.Search.{nth, Begins}
 use Rattle.names.specs.declared.Named.the-variants as N
 use Rattle.names.proofs.Orders.{before-other}
 use Rattle.names.proofs.Tables.{table-count, table-order, table-letter}
@@ -72,6 +72,23 @@ head-lowered (x ∷ xs) = refl
 -- c is the first byte of a word, in lower case: so it is that of any name that the word is
 pub first-letter : (w : List ℕ) {b c : ℕ} → b ≡ getD w 0 0 → c ≡ lowerOf b → (a : List ℕ) → a ≡ lowered w → getD a 0 0 ≡ c
 first-letter w p q a e = ap (λ l. getD l 0 0) e ∙ (head-lowered w ∙ (ap lowerOf (sym p) ∙ sym q))
+
+-- the arms of a `match` on it: one letter, and those from k to l
+pub begins-with : (w : List ℕ) {b c k : ℕ} → c ≡ k → b ≡ getD w 0 0 → c ≡ lowerOf b → Begins w k k
+begins-with w e p q =
+    let f : getD (lowered w) 0 0 ≡ _ = first-letter w p q (lowered w) refl in
+    record { least = omega arith; most = omega arith }
+
+pub begins-among : (w : List ℕ) {b c k l : ℕ} → c < suc l → b ≡ getD w 0 0 → c ≡ lowerOf b → k ≤ c → Begins w k l
+begins-among w h p q g =
+    let f : getD (lowered w) 0 0 ≡ _ = first-letter w p q (lowered w) refl in
+    record { least = omega arith; most = omega arith }
+
+pub ruleset beginning = (begins-with, begins-among)
+
+-- the arms of one letter come first: a later arm is told of them only that c is none
+pub past : {c k : ℕ} → (c ≡ k → ⊥) → k ≤ c → suc k ≤ c
+past n h = omega (arith, n)
 
 -- a word that begins with no letter names no colour
 module _ (w : List ℕ) {b c : ℕ} (p : b ≡ getD w 0 0) (q : c ≡ lowerOf b) where

@@ -1,15 +1,15 @@
 -- The binary search: the laws of its turns and its ends.
-use Prim.Native.Nat.{ℕ, _+_, _-_, _/_, _≤_, _<_}
+use Prim.Native.Nat.{ℕ, _+_, _-_, _*_, _/_, _≤_, _<_}
 use mathlib.Core.List.{List, []}
 use mathlib.Core.Path.{_≡_, sym, _∙_}
 use mathlib.Core.Logic.{⊎-elim}
 use native.Mathlib.Nat.{eq-or-lt-of-le, div-mul-le-self}
 use native.Mathlib.Omega.{arith}
+use lib.ListN.{length, getD}
 use Rattle.stream.specs.Words.{lowered}
 use Rattle.stream.proofs.Ranges.{le-or-lt}
-use Rattle.names.specs.Look.{channels, lookUp, namedOf}
-use Rattle.names.specs.Search.{nth, order, Narrowed}
-use Rattle.names.specs.declared.Rgb.{Rgb}
+use Rattle.names.specs.Look.{lookUp, namedOf}
+use Rattle.names.specs.Search.{nth, order, spelling, colouring, Narrowed, Searching}
 use Rattle.names.specs.declared.Named.{Named}
 use Rattle.names.specs.declared.Named.the-variants as N
 use Rattle.names.specs.declared.Order.{Order}
@@ -46,26 +46,73 @@ module _ {w : List ℕ} {lo hi : ℕ} (v : Narrowed w lo hi) (m : ℕ) (h : m < 
 half-lt : (lo hi : ℕ) → lo < hi → lo + (hi - lo) / 2 < hi
 half-lt lo hi h = omega (arith, div-mul-le-self (hi - lo) 2)
 
-module _ {w : List ℕ} {lo hi : ℕ} (v : Narrowed w lo hi) (h : lo < hi) where
-  pub narrow-lt : lo + (hi - lo) / 2 < 147
-  narrow-lt = omega (arith, half-lt lo hi h, v .upto)
+-- in a band, whose entry in the middle is one of the table
+module _ {ns ss cs w : List ℕ} {lo hi : ℕ} (v : Searching ns ss cs w lo hi) where
+  pub band-some : 1 ≤ length ss
+  band-some = omega (arith, v .band .enough)
 
-  -- o is how the entry in the middle stands to the word
-  module _ {o : Order} (q : o ≡ order (nth (lo + (hi - lo) / 2) .name) w) where
-    pub narrow-low : o ≡ Before → Narrowed w (lo + (hi - lo) / 2 + 1) hi
-    narrow-low e = cut-low v (lo + (hi - lo) / 2) (half-lt lo hi h) (cc)
+  module _ (h : lo < hi) where
+    middle : lo + (hi - lo) / 2 < v .count
+    middle = omega (arith, half-lt lo hi h, v .until)
 
-    pub narrow-high : o ≡ After → Narrowed w lo (lo + (hi - lo) / 2)
-    narrow-high e = cut-high v (lo + (hi - lo) / 2) (half-lt lo hi h) (cc)
+    pub middle-next : lo + (hi - lo) / 2 + 1 < length ss
+    middle-next = omega (arith, middle, v .band .enough)
 
-module _ (w : List ℕ) {lo hi : ℕ} (v : Narrowed (lowered w) lo hi) where
-  pub narrow-at : lo < hi → {o : Order} → o ≡ order (nth (lo + (hi - lo) / 2) .name) (lowered w) → o ≡ Same
-      → (r : Rgb) → r ≡ channels (nth (lo + (hi - lo) / 2)) → N.Keyword r ≡ namedOf w
-  narrow-at h q e r f = rw f (sym (named-keyword w (lo + (hi - lo) / 2) (narrow-lt v h) (order-same (nth (lo + (hi - lo) / 2) .name) (lowered w) (sym q ∙ e))))
+    pub middle-forth : getD ss (lo + (hi - lo) / 2) 0 ≤ getD ss (lo + (hi - lo) / 2 + 1) 0
+    middle-forth = v .band .forth _ middle
+
+    pub middle-inside : getD ss (lo + (hi - lo) / 2 + 1) 0 ≤ length ns
+    middle-inside = v .band .inside _ middle
+
+    pub middle-red : (lo + (hi - lo) / 2) * 3 < length cs
+    middle-red = omega (arith, v .band .threes _ middle)
+
+    pub middle-green : (lo + (hi - lo) / 2) * 3 + 1 < length cs
+    middle-green = omega (arith, v .band .threes _ middle)
+
+    pub middle-blue : (lo + (hi - lo) / 2) * 3 + 2 < length cs
+    middle-blue = v .band .threes _ middle
+
+    -- o is how the entry in the middle stands to the word
+    module _ {o : Order} (q : o ≡ order (spelling ns ss (lo + (hi - lo) / 2)) w) where
+      told : o ≡ order (nth (v .first + (lo + (hi - lo) / 2)) .name) w
+      told = rw (← v .band .spelt _ middle) q
+
+      pub narrow-low : o ≡ Before → Searching ns ss cs w (lo + (hi - lo) / 2 + 1) hi
+      narrow-low e =
+          let f : v .first + (lo + (hi - lo) / 2 + 1) ≡ v .first + (lo + (hi - lo) / 2) + 1 = omega arith in
+          record {
+            first = v .first;
+            count = v .count;
+            band = v .band;
+            until = v .until;
+            narrowed = rw f (cut-low (v .narrowed) (v .first + (lo + (hi - lo) / 2)) (omega (arith, half-lt lo hi h)) (sym told ∙ e));
+          }
+
+      pub narrow-high : o ≡ After → Searching ns ss cs w lo (lo + (hi - lo) / 2)
+      narrow-high e =
+          record {
+            first = v .first;
+            count = v .count;
+            band = v .band;
+            until = omega (arith, middle);
+            narrowed = cut-high (v .narrowed) (v .first + (lo + (hi - lo) / 2)) (omega (arith, half-lt lo hi h)) (sym told ∙ e);
+          }
+
+module _ (w : List ℕ) {ns ss cs : List ℕ} {lo hi : ℕ} (v : Searching ns ss cs (lowered w) lo hi) where
+  pub narrow-at : (h : lo < hi) {o : Order} → o ≡ order (spelling ns ss (lo + (hi - lo) / 2)) (lowered w) → o ≡ Same
+      → N.Keyword (colouring cs (lo + (hi - lo) / 2)) ≡ namedOf w
+  narrow-at h q e =
+      rw (v .band .coloured _ (middle v h))
+      (sym (named-keyword w (v .first + (lo + (hi - lo) / 2)) (omega (arith, half-lt lo hi h, v .narrowed .upto))
+      (order-same (nth (v .first + (lo + (hi - lo) / 2)) .name) (lowered w) (sym (told v h q) ∙ e))))
 
   pub narrow-none : hi ≤ lo → {n : Named} → n ≡ lookUp [] (lowered w) → n ≡ namedOf w
   narrow-none h q =
       q ∙ sym (named-unlisted w
-      (λ j l. ⊎-elim (λ (p : hi ≤ j). v .above j p l) (λ (p : j < hi). v .below j (omega arith)) (le-or-lt hi j)))
+      (λ j l.
+      ⊎-elim (λ (p : v .first + hi ≤ j). v .narrowed .above j p l) (λ (p : j < v .first + hi). v .narrowed .below j (omega arith))
+      (le-or-lt (v .first + hi) j)))
 
-pub ruleset narrowed = (narrow-lt, narrow-low, narrow-high, narrow-at, narrow-none)
+pub ruleset narrowing =
+    (band-some, middle-next, middle-forth, middle-inside, middle-red, middle-green, middle-blue, narrow-low, narrow-high, narrow-at, narrow-none)

@@ -1,12 +1,14 @@
 -- What the functions of the binary search say to each other.
-use Prim.Native.Nat.{ℕ, _+_, _≤_, _<_}
+use Prim.Native.Nat.{ℕ, _+_, _*_, _≤_, _<_}
 use mathlib.Core.Bool.{cond}
 use mathlib.Core.List.{List, [], _∷_}
 use mathlib.Core.Path.{_≡_}
 use lib.Dec.{ltb}
 use lib.ListN.{length, getD}
-use Rattle.stream.specs.Words.{part}
+use Rattle.stream.specs.Words.{part, lowered}
 use Rattle.names.specs.Keywords.{Keyword, entry, keywords}
+use Rattle.names.specs.Look.{channels}
+use Rattle.names.specs.declared.Rgb.{Rgb}
 use Rattle.names.specs.declared.Order.{Order}
 use Rattle.names.specs.declared.Order.the-variants.{Before, Same, After}
 
@@ -21,15 +23,38 @@ order [] (y ∷ ys) = Before
 order (x ∷ xs) [] = After
 order (x ∷ xs) (y ∷ ys) = cond (ltb x y) Before (cond (ltb y x) After (order xs ys))
 
--- the names one after the other, and where each starts: name k goes to the start of name k + 1
-pub record Holds (names starts : List ℕ) : Type 0 where
-  pub count : 147 < length starts
-  pub forth : (k : ℕ) → k < 147 → getD starts k 0 ≤ getD starts (k + 1) 0
-  pub inside : (k : ℕ) → k < 147 → getD starts (k + 1) 0 ≤ length names
-  pub holds : (k : ℕ) → k < 147 → part names (getD starts k 0) (getD starts (k + 1) 0) ≡ nth k .name
+-- name k of a band whose names stand one after the other: it goes to the start of name k + 1
+abbrev pub spelling : List ℕ → List ℕ → ℕ → List ℕ
+spelling names starts k = part names (getD starts k 0) (getD starts (k + 1) 0)
+
+-- colour k of a band: three bytes to each
+abbrev pub colouring : List ℕ → ℕ → Rgb
+colouring colours k = record { red = getD colours (k * 3) 0; green = getD colours (k * 3 + 1) 0; blue = getD colours (k * 3 + 2) 0 }
+
+-- the code's band of the table: the entries from first on, count of them
+pub record Holds (names starts colours : List ℕ) (first count : ℕ) : Type 0 where
+  pub enough : count < length starts
+  pub forth : (k : ℕ) → k < count → getD starts k 0 ≤ getD starts (k + 1) 0
+  pub inside : (k : ℕ) → k < count → getD starts (k + 1) 0 ≤ length names
+  pub threes : (k : ℕ) → k < count → k * 3 + 2 < length colours
+  pub spelt : (k : ℕ) → k < count → spelling names starts k ≡ nth (first + k) .name
+  pub coloured : (k : ℕ) → k < count → colouring colours k ≡ channels (nth (first + k))
 
 -- the search has come to the entries from lo to hi: w is the name of none below, and of none from hi on
 pub record Narrowed (w : List ℕ) (lo hi : ℕ) : Type 0 where
   pub below : (j : ℕ) → j < lo → nth j .name ≡ w → ⊥
   pub above : (j : ℕ) → hi ≤ j → j < 147 → nth j .name ≡ w → ⊥
   pub upto : hi ≤ 147
+
+-- the same within a band, whose own entries are counted from 0
+pub record Searching (names starts colours w : List ℕ) (lo hi : ℕ) : Type 0 where
+  pub first : ℕ
+  pub count : ℕ
+  pub band : Holds names starts colours first count
+  pub until : hi ≤ count
+  pub narrowed : Narrowed w (first + lo) (first + hi)
+
+-- the first letter of a word, in lower case, is one of those from a to b
+pub record Begins (w : List ℕ) (a b : ℕ) : Type 0 where
+  pub least : a ≤ getD (lowered w) 0 0
+  pub most : getD (lowered w) 0 0 ≤ b

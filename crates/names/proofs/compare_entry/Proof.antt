@@ -1,5 +1,4 @@
 use Rattle.stream.specs.Words.{part}
-use Rattle.names.proofs.Lent.{held, entry-order}
 use borrow.Author.Needs.{needs}
 use Rattle.names.proofs.compare_entry.Statement.{statement}
 use Rattle.names.proofs.compare_entry.Tie as tie
@@ -10,13 +9,11 @@ compare-entry-spec =
     (tie.spec
     (λ c. search needs)
     (λ c. search needs)
-    (λ c. search (held, needs))
     (λ c. search needs)
     (λ c. search needs)
     (λ c. search needs)
-    (λ c. search (held, needs))
-    (λ c. search (held, needs))
-    (λ c. search (held, needs))
-    (λ c. search (held, needs))
+    (λ c. search needs)
+    (λ c. search needs)
+    (λ c. search needs)
     (λ c κs. search needs)
-    (λ c. unfold part in search (held, entry-order, needs)))
+    (λ c. unfold part in search needs))

@@ -1,7 +1,4 @@
-use Rattle.names.proofs.Naming.{unlettered}
-use Rattle.names.proofs.Lent.{grouped, group, tables-hold}
-use Rattle.stream.specs.Words.{part, same}
-use Rattle.names.specs.Keywords.{keywords}
+use Rattle.names.proofs.Naming.{unlettered, beginning, past}
 use borrow.Author.Needs.{needs}
 use Rattle.names.proofs.from_str.Statement.{statement}
 use Rattle.names.proofs.from_str.Tie as tie
@@ -12,15 +9,25 @@ from-str-spec =
     (tie.spec
     (λ c κs. search needs)
     (λ c κs. search needs)
+    (λ c κs. search (beginning, needs))
+    (λ c κs. search (beginning, needs))
+    (λ c κs. search (beginning, needs))
+    (λ c κs. search (beginning, needs))
+    (λ c κs. search (beginning, past (c .before .before .before .match .rest .0 .0 .1), past (c .before .before .before .match .rest .0 .1), needs))
+    (λ c κs. search (beginning, needs))
+    (λ c κs. search (beginning, past (c .before .before .before .before .before .match .rest .1), needs))
+    (λ c κs. search (beginning, needs))
+    (λ c κs. search (beginning, needs))
+    (λ c κs. search (beginning, needs))
+    (λ c. search needs)
+    (λ c. search needs)
+    (λ c. search needs)
+    (λ c. search needs)
+    (λ c. search needs)
+    (λ c. search needs)
+    (λ c. search needs)
+    (λ c. search needs)
+    (λ c. search needs)
+    (λ c. search needs)
     (λ c. search (unlettered, needs))
-    (λ c. search (unlettered, needs))
-    (λ c. search needs)
-    (λ c. search needs)
-    (λ c. search needs)
-    (λ c. search needs)
-    (λ c. search (grouped, needs))
-    (λ c. search needs)
-    (λ c. search needs)
-    (λ c. search (grouped, needs))
-    (λ c κs. unfold keywords part same in (tables-hold _ _ tt tt tt tt, search (group, needs)))
-    (λ c. search needs))
+    (λ c. search (unlettered, needs)))
