@@ -2,17 +2,18 @@
 use Prim.Native.Nat.{ℕ, zero, suc, _+_, _-_, _≤_, _<_}
 use mathlib.Core.Bool.{Bool, true, false, cond}
 use mathlib.Core.List.{List, [], _∷_}
-use mathlib.Core.Path.{_≡_, refl, sym}
+use mathlib.Core.Path.{_≡_, refl, sym, _∙_}
 use native.Mathlib.Omega.{arith}
-use borrow.Author.Tests.{eq-eqb, ne-eqb}
+use borrow.Author.Tests.{eq-eqb, ne-eqb, lt-leb}
 use lib.Dec.{eqb, lit≤, eqb·suc-zero}
 use lib.ListN.{length, getD, take, drop, length-drop, drop-of-length-le}
 use lib.Seq.{drop-cons, drop-drop, getD-drop, length-take-le}
+use Rattle.stream.specs.Bytes.{within}
 use Rattle.stream.specs.Blanks.{blank1, blank2, blank3, blankLen, blankAt, byteBefore, blankEnd, blankBefore, front, trimStart, back, trimEnd, trimPart, trimOf}
 use Rattle.stream.specs.declared.Part.{Part}
 use Rattle.stream.specs.declared.Place.{Place}
 use Rattle.stream.proofs.Parts.{rest-part}
-use Rattle.stream.proofs.Ranges.{and-false}
+use Rattle.stream.proofs.Ranges.{and-false, within-ge, within-le}
 
 either-le : (t : Bool) (a b m : ℕ) → a ≤ m → b ≤ m → cond t a b ≤ m
 either-le true a b m p q = p
@@ -40,6 +41,44 @@ blankBefore-le s (suc (suc (suc e))) = three e (blankBefore-3 s (suc (suc (suc e
   where
     three : {n : ℕ} (e : ℕ) → n ≤ 3 → n ≤ suc (suc (suc e))
     three e h = omega arith
+
+-- a plain byte starts no white space and ends none: r is what its test answered
+module _ (a b c : ℕ) {r : Bool} (q : r ≡ within 33 127 a) (e : r ≡ true) where
+  more : 33 ≤ a
+  more = within-ge 33 127 a (sym e ∙ q)
+
+  less : a < 128
+  less = omega (arith, within-le 33 127 a (sym e ∙ q))
+
+  low : eqb a 32 ≡ false
+  low = ne-eqb a 32 (λ f. omega (arith, more))
+
+  high : (n : ℕ) → 128 ≤ n → eqb a n ≡ false
+  high n h = ne-eqb a n (λ f. omega (arith, less))
+
+  pub plain-len : 0 ≡ blankLen a b c
+  unfolding blankLen blank1 blank2 blank3
+  plain-len =
+      simp (lt-leb a 13 (omega (arith, more)), and-false, low, high 0xc2 (lit≤ tt), high 0xe1 (lit≤ tt), high 0xe2 (lit≤ tt), high 0xe3 (lit≤ tt))
+
+  pub plain-end : 0 ≡ blankEnd a b c
+  unfolding blankEnd blank1 blank2 blank3
+  plain-end =
+      simp (
+        lt-leb a 13 (omega (arith, more)),
+        lt-leb 0x80 a less,
+        and-false,
+        low,
+        high 0x80 (lit≤ tt),
+        high 0x85 (lit≤ tt),
+        high 0x9f (lit≤ tt),
+        high 0xa0 (lit≤ tt),
+        high 0xa8 (lit≤ tt),
+        high 0xa9 (lit≤ tt),
+        high 0xaf (lit≤ tt),
+      )
+
+pub ruleset plain = (plain-len, plain-end)
 
 -- the white space at the front of the rest is the one at i
 pub blank-drop : (s : List ℕ) (i : ℕ) → blankAt (drop i s) 0 ≡ blankAt s i

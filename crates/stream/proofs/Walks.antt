@@ -1,21 +1,23 @@
--- The walk of the UTF-8 test: its loop, and what it says of a text that is cut or joined.
-use Prim.Native.Nat.{ℕ, zero, suc, _+_, _-_, _^_, _≤_, _<_}
+-- The walk of the UTF-8 test: its loop, the test of ASCII before it, and what it says of a text that is cut or joined.
+use Prim.Native.Nat.{ℕ, zero, suc, _+_, _-_, _^_, _≤_, _<_, max}
 use mathlib.Core.Bool.{Bool, true, false, cond, _&&_}
 use mathlib.Core.List.{List, [], _∷_, _++_}
 use mathlib.Core.Path.{_≡_, refl, sym, ap, _∙_}
+use mathlib.Core.Logic.{⊎-elim}
 use native.Mathlib.Omega.{arith}
-use borrow.Author.Tests.{eq-eqb, ne-eqb}
-use lib.Dec.{eqb, eqb·suc-zero}
+use borrow.Author.Tests.{eq-eqb, ne-eqb, lt-ltb, le-ltb, ltb-true}
+use lib.Dec.{eqb, ltb, eqb·suc-zero}
 use lib.ListN.{length, getD, take, drop, drop-of-length-le, length-drop}
 use lib.Seq.{drop-cons, drop-drop}
 use mir.Syntax.{w64}
 use mir.Val.{Fits}
 use Rattle.stream.specs.Bytes.{isTail}
-use Rattle.stream.specs.Characters.{charLen, walk, utf8Of, skipChars}
+use Rattle.stream.specs.Characters.{charLen, isAscii, walk, utf8Of, skipChars}
 use Rattle.stream.specs.Moves.{moveUtf8}
 use Rattle.stream.specs.declared.Utf8.{Utf8}
 use Rattle.stream.specs.declared.Utf8.the-variants.{WellFormed, IllFormed}
-use Rattle.stream.proofs.Octets.{char-le, char-inside, char-more, char-ascii}
+use Rattle.stream.proofs.Octets.{and-true, and-first, and-second, char-le, char-inside, char-more, char-ascii}
+use Rattle.stream.proofs.Ranges.{lt-or-le, and-false}
 
 pub walk-skip : (i k : ℕ) (l : List ℕ) → walk i k l ≡ walk (i + k) 0 (drop k l)
 unfolding walk
@@ -68,6 +70,49 @@ pub char-add : (s : List ℕ) (i n : ℕ) → n ≡ charLen (drop i s) → i < l
 char-add s i n q h l = omega (arith, char-fits s i n q h)
 
 pub ruleset walked = (walk-start, walk-end, walk-bad, walk-go, walk-ascii)
+
+-- the loop that seeks the largest byte: with it the rest is judged as the whole is
+pub record Topping (s : List ℕ) (i most : ℕ) : Type 0 where
+  pub same : (ltb most 128 && isAscii (drop i s)) ≡ isAscii s
+
+pub top-start : (s : List ℕ) → Topping s 0 0
+top-start s = record { same = refl }
+
+ltb-max : (a b n : ℕ) (t : Bool) → (ltb (max a b) n && t) ≡ (ltb a n && (ltb b n && t))
+ltb-max a b n t = ⊎-elim below (λ (h : n ≤ a). simp (le-ltb a n h, le-ltb (max a b) n (omega arith))) (lt-or-le a n)
+  where
+    below : a < n → (ltb (max a b) n && t) ≡ (ltb a n && (ltb b n && t))
+    below h =
+        ⊎-elim
+        (λ (k : b < n). simp (lt-ltb a n h, lt-ltb b n k, lt-ltb (max a b) n (omega arith)))
+        (λ (k : n ≤ b). simp (le-ltb b n k, and-false, le-ltb (max a b) n (omega arith)))
+        (lt-or-le b n)
+
+module _ {s : List ℕ} {i most : ℕ} (v : Topping s i most) where
+  pub top-go : i < length s → {m : ℕ} → m ≡ max most (getD s i 0) → Topping s (i + 1) m
+  unfolding isAscii
+  top-go h q =
+      let a : drop i s ≡ getD s i 0 ∷ drop (suc i) s = drop-cons s i 0 h in
+      let b : i + 1 ≡ suc i = omega arith in
+      record { same = simp (q, b, ltb-max) (simp a at (v .same)) }
+
+  pub top-end : length s ≤ i → ltb most 128 ≡ isAscii s
+  unfolding isAscii
+  top-end h = simp (drop-of-length-le s h, and-true) at (v .same)
+
+pub ruleset topped = (top-start, top-go, top-end)
+
+walk-plain : (l : List ℕ) (i : ℕ) → isAscii l ≡ true → walk i 0 l ≡ WellFormed
+unfolding walk isAscii
+walk-plain [] i e = refl
+walk-plain (x ∷ xs) i e =
+    let h : x < 128 = ltb-true x 128 (and-first (ltb x 128) (isAscii xs) e) in
+    simp (char-ascii x xs h) (walk-plain xs (i + 1) (and-second (ltb x 128) (isAscii xs) e))
+
+-- a text of ASCII is UTF-8: r is what the test answered
+pub ascii-utf8 : (s : List ℕ) {r : Bool} → r ≡ isAscii s → r ≡ true → WellFormed ≡ utf8Of s
+unfolding utf8Of
+ascii-utf8 s q e = sym (walk-plain s 0 (sym q ∙ e))
 
 -- the loop that goes on by characters: as many are left, and what it comes to is what it came to from the start
 pub record Skipping (s : List ℕ) (n at left i : ℕ) : Type 0 where

@@ -2,7 +2,7 @@
 use Prim.Native.Nat.{ℕ, zero, suc, _+_, _-_}
 use mathlib.Core.Bool.{Bool, true, false, _&&_, not, cond}
 use mathlib.Core.List.{List, [], _∷_}
-use lib.Dec.{eqb, leb}
+use lib.Dec.{eqb, leb, ltb}
 use lib.ListN.{length, getD, take, drop}
 use Rattle.stream.specs.Bytes.{within}
 use Rattle.stream.specs.declared.Utf8.{Utf8}
@@ -63,6 +63,11 @@ lenAt (r ∷ rs) (suc n) xs = lenAt rs n xs
 unfoldable pub charLen : List ℕ → ℕ
 charLen [] = 0
 charLen (x ∷ xs) = lenAt table (rowOf table x) xs
+
+-- every octet is below 128
+unfoldable pub isAscii : List ℕ → Bool
+isAscii [] = true
+isAscii (x ∷ xs) = ltb x 128 && isAscii xs
 
 -- From place i on, where the next `skip` octets belong to a character that was judged: the place of the first ill-formed sequence, or none
 unfoldable pub walk : ℕ → ℕ → List ℕ → Utf8

@@ -2,6 +2,7 @@
 ghost use mathlib.Core.Path.{_≡_};
 ghost use Prim.Native.Nat.{_≤_, _<_};
 ghost use lib.ListN.{length};
+ghost use Rattle.stream.specs.Bytes.{within};
 ghost use Rattle.stream.specs.Blanks.{blank1, blank2, blank3, blankLen, blankEnd, blankAt, blankBefore, byteBefore, trimStart, trimEnd, trimPart, trimOf};
 use crate::Part;
 use crate::Place;
@@ -33,11 +34,21 @@ fn is_blank3(a: u8, b: u8, c: u8) -> bool
             | ((a == 0xe3) & ((b == 0x80) & (c == 0x80))))
 }
 
+// An ASCII byte after the space is no white space, nor part of one.
+fn is_plain(a: u8) -> bool
+    ensures { λ r. ⌜ r ≡ within 33 127 a ⌝ }
+{
+    (33 <= a) & (a <= 127)
+}
+
 // The bytes of the white space that starts with these, 0 for none.
 fn blank_len(a: u8, b: u8, c: u8) -> usize
     ensures { λ r. ⌜ r ≡ blankLen a b c ⌝ }
     ensures { λ r. ⌜ r ≤ 3 ⌝ }
 {
+    if is_plain(a) {
+        return 0;
+    }
     if is_blank1(a) {
         return 1;
     }
@@ -54,6 +65,9 @@ fn blank_len(a: u8, b: u8, c: u8) -> usize
 fn blank_end(a: u8, b: u8, c: u8) -> usize
     ensures { λ r. ⌜ r ≡ blankEnd a b c ⌝ }
 {
+    if is_plain(a) {
+        return 0;
+    }
     if is_blank1(a) {
         return 1;
     }

@@ -2,9 +2,9 @@
 ghost use mathlib.Core.Path.{_≡_};
 ghost use mathlib.Core.Bool.{cond};
 ghost use mathlib.Core.List.{_∷_, []};
-ghost use Prim.Native.Nat.{_<_, _≤_};
+ghost use Prim.Native.Nat.{_<_, _≤_, max};
 ghost use lib.ListN.{length, drop};
-ghost use Rattle.stream.specs.Characters.{table, rowOf, lenAt, charLen, utf8Of, calcCharPosAt, skipChars};
+ghost use Rattle.stream.specs.Characters.{table, rowOf, lenAt, charLen, isAscii, utf8Of, calcCharPosAt, skipChars};
 ghost use Rattle.stream.specs.declared.Utf8;
 use crate::Place;
 use crate::Position;
@@ -68,10 +68,36 @@ fn char_len(text: &[u8], at: usize) -> usize
     )
 }
 
+// The larger of two bytes: by itself it is compiled to a choice with no branch.
+fn larger(a: u8, b: u8) -> u8
+    ensures { λ r. ⌜ r ≡ max a b ⌝ }
+{
+    if a < b { b } else { a }
+}
+
+// Whether all bytes are ASCII. The largest is sought to the end, with no way out of the loop, so that many bytes are compared at once.
+fn is_ascii(text: &[u8]) -> bool
+    ensures { λ r. ⌜ r ≡ isAscii (now (text .entry)) ⌝ }
+{
+    let mut most: u8 = 0;
+    let mut i: usize = 0;
+    while i < text.len() {
+        most = larger(most, text[i]);
+        i += 1;
+    }
+    most < 128
+}
+
 // Whether a text is UTF-8. A run of ASCII is gone through a byte a turn.
 pub fn utf8_test(text: &[u8]) -> Utf8
     ensures { λ r. ⌜ r ≡ utf8Of (now (text .entry)) ⌝ }
 {
+    // A short text is through the loop before the other test has begun.
+    if 32 <= text.len() {
+        if is_ascii(text) {
+            return Utf8::WellFormed;
+        }
+    }
     let mut i: usize = 0;
     while i < text.len() {
         if text[i] < 128 {
