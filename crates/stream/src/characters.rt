@@ -92,8 +92,8 @@ fn is_ascii(text: &[u8]) -> bool
 pub fn utf8_test(text: &[u8]) -> Utf8
     ensures { λ r. ⌜ r ≡ utf8Of (now (text .entry)) ⌝ }
 {
-    // A short text is through the loop before the other test has begun.
-    if 32 <= text.len() {
+    // A shorter text is through the loop below as soon.
+    if 8 <= text.len() {
         if is_ascii(text) {
             return Utf8::WellFormed;
         }
