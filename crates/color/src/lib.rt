@@ -1,6 +1,8 @@
 // Colours: hex digits, `rgb` and `hsl` with their brackets, and names.
 ghost use mathlib.Core.Path.{_≡_};
+ghost use mathlib.Core.Bool.{cond};
 ghost use Prim.Native.Nat.{_+_, _≤_};
+ghost use lib.Dec.{eqb};
 ghost use lib.ListN.{length};
 ghost use Rattle.color.specs.Hex.{fromHex, shortHex, hexPair, shortColor, longColor, parseHex};
 ghost use Rattle.color.specs.Hsl.{hueToRgb, hslToRgb, hslColor};
@@ -79,7 +81,7 @@ pub fn parse_color(text: &[u8], at: Place) -> ColorRead
     parse_word(text, start)
 }
 
-// The colour whose hex digits start at a place, the one after the `#`.
+// The colour whose hex digits start at a place, the one after the `#`. Each colour is made by one call, so that it is compiled in place.
 fn parse_hex(text: &[u8], at: Place) -> ColorRead
     requires { ⌜ at .0 ≤ length (now text) ⌝ }
     ensures { λ r. ⌜ r ≡ parseHex (now (text .entry)) (at .0) ⌝ }
@@ -87,13 +89,16 @@ fn parse_hex(text: &[u8], at: Place) -> ColorRead
     let from = at.0;
     let end = stream::skip_hex_digits(text, at);
     let to = end.0;
-    match to - from {
-        6 => ColorRead::Value(long_color(text, from, 255), end),
-        8 => ColorRead::Value(long_color(text, from, hex_pair(text, from + 6)), end),
-        3 => ColorRead::Value(short_color(text, from, 255), end),
-        4 => ColorRead::Value(short_color(text, from, short_hex(text, from + 3)), end),
-        _ => ColorRead::Refused(stream::invalid_value(end)),
+    let n = to - from;
+    if (n == 6) | (n == 8) {
+        let alpha = long_alpha(text, from, n);
+        return ColorRead::Value(long_color(text, from, alpha), end);
     }
+    if (n == 3) | (n == 4) {
+        let alpha = short_alpha(text, from, n);
+        return ColorRead::Value(short_color(text, from, alpha), end);
+    }
+    ColorRead::Refused(stream::invalid_value(end))
 }
 
 // What a word begins: `rgb(`, `hsl(`, or a name alone.
@@ -361,6 +366,22 @@ fn long_color(text: &[u8], at: usize, alpha: u8) -> Color
         blue: hex_pair(text, at + 4),
         alpha,
     }
+}
+
+// The alpha of six or of eight digits.
+fn long_alpha(text: &[u8], at: usize, n: usize) -> u8
+    requires { ⌜ at + n ≤ length (now text) ⌝ }
+    ensures { λ r. ⌜ r ≡ cond (eqb n 8) (hexPair (now (text .entry)) (at + 6)) 255 ⌝ }
+{
+    if n == 8 { hex_pair(text, at + 6) } else { 255 }
+}
+
+// The alpha of three or of four digits.
+fn short_alpha(text: &[u8], at: usize, n: usize) -> u8
+    requires { ⌜ at + n ≤ length (now text) ⌝ }
+    ensures { λ r. ⌜ r ≡ cond (eqb n 4) (shortHex (now (text .entry)) (at + 3)) 255 ⌝ }
+{
+    if n == 4 { short_hex(text, at + 3) } else { 255 }
 }
 
 // Hue, saturation and lightness as they were read, rounded to `f32`s.

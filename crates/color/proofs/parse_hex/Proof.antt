@@ -1,8 +1,5 @@
-use Rattle.stream.proofs.Flows.{flow}
 use Rattle.stream.proofs.Scans.{from-scan}
-use Rattle.color.proofs.Digits.{run-holds}
-use Rattle.color.proofs.Steps.{coloured}
-use Rattle.color.specs.Hex.{parseHex}
+use Rattle.color.proofs.Digits.{run-holds, run-long, hexes}
 use borrow.Author.Needs.{needs}
 use Rattle.color.proofs.parse_hex.Statement.{statement}
 use Rattle.color.proofs.parse_hex.Tie as tie
@@ -14,16 +11,10 @@ parse-hex-spec =
     (λ c κs. search needs)
     (λ c. search (from-scan, needs))
     (λ c κs. search (run-holds, needs))
-    (λ c. search (run-holds, needs))
+    (λ c κs. search (run-long, needs))
+    (λ c. search (hexes, needs))
     (λ c κs. search (run-holds, needs))
-    (λ c κs. search (run-holds, needs))
     (λ c κs. search needs)
-    (λ c. search needs)
+    (λ c. search (hexes, needs))
     (λ c κs. search needs)
-    (λ c κs. search needs)
-    (λ c κs. search needs)
-    (λ c. unfold parseHex in search (flow, coloured, needs) depth 20)
-    (λ c. unfold parseHex in search (flow, coloured, needs) depth 20)
-    (λ c. unfold parseHex in search (flow, coloured, needs) depth 20)
-    (λ c. unfold parseHex in search (flow, coloured, needs) depth 20)
-    (λ c. unfold parseHex in search (flow, coloured, needs) depth 20))
+    (λ c. search (hexes, needs)))
