@@ -1,5 +1,5 @@
 use Rattle.stream.proofs.Scans.{from-scan}
-use Rattle.color.proofs.Digits.{run-holds, run-long, hexes}
+use Rattle.color.proofs.Digits.{row-whole, row-of, hexes}
 use borrow.Author.Needs.{needs}
 use Rattle.color.proofs.parse_hex.Statement.{statement}
 use Rattle.color.proofs.parse_hex.Tie as tie
@@ -10,11 +10,11 @@ parse-hex-spec =
     (tie.spec
     (λ c κs. search needs)
     (λ c. search (from-scan, needs))
-    (λ c κs. search (run-holds, needs))
-    (λ c κs. search (run-long, needs))
+    (λ c κs. search (row-whole, needs))
+    (λ c κs. search (row-of, needs))
     (λ c. search (hexes, needs))
-    (λ c κs. search (run-holds, needs))
-    (λ c κs. search needs)
+    (λ c κs. search (row-whole, needs))
+    (λ c κs. search (row-of, needs))
     (λ c. search (hexes, needs))
     (λ c κs. search needs)
     (λ c. search (hexes, needs)))

@@ -1,4 +1,6 @@
+use native.Mathlib.Omega.{arith}
 use Rattle.stream.proofs.Flows.{flow}
+use Rattle.color.proofs.Digits.{row-on, row-inside}
 use borrow.Author.Needs.{needs}
 use Rattle.color.proofs.short_alpha.Statement.{statement}
 use Rattle.color.proofs.short_alpha.Tie as tie
@@ -7,7 +9,7 @@ pub short-alpha-spec : {M : Type 1} → statement M
 short-alpha-spec =
     tie.close
     (tie.spec
-    (λ c. search needs)
-    (λ c κs. search needs)
+    (λ c. omega (arith, row-inside _ _ _ (c .before .before .pre) (omega arith)))
+    (λ c κs. row-on _ _ _ (c .before .before .pre) 3 1 (omega arith))
     (λ c. search (flow, needs) depth 20)
     (λ c. search (flow, needs) depth 20))
