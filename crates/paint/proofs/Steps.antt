@@ -18,7 +18,7 @@ use Rattle.stream.specs.declared.Utf8.the-variants.{WellFormed}
 use Rattle.stream.proofs.Cuts.{trim-utf8, utf8-drop}
 use Rattle.stream.proofs.Edges.{admitted-small, admitted-utf8}
 use Rattle.stream.proofs.Parts.{rest-part}
-use Rattle.stream.proofs.Trimming.{trimStart-le, trimEnd-le}
+use Rattle.stream.proofs.Trimming.{trimStart-le, trimEnd-le, trim-count}
 use Rattle.paint.specs.Answers.{isInherit, fromStr, inheritedOf, bytesOf, chosenBytes, inheritedPart}
 use Rattle.paint.specs.Moves.{linkStart, movePaint, thenPaintRead, thenPaintAnswer}
 use Rattle.paint.specs.Reading.{parseFallback, parsePaint}
@@ -87,6 +87,22 @@ pub trim-near : (p : Part) (s : List ℕ) → p ≡ trimPart s → length s ≤ 
 unfolding trimPart
 trim-near p s q h = rw q (omega (arith, trimStart-le s (trimStart s) refl))
 
+-- the part that trimming leaves, as the code takes it out of the text
+module _ (p : Part) (s : List ℕ) (q : p ≡ trimPart s) where
+  pub trim-from : p .start .0 ≤ length s
+  unfolding trimPart
+  trim-from = rw q (trimStart-le s (trimStart s) refl)
+
+  pub trim-taken : take (p .len) (take (length s - p .start .0) (drop (p .start .0) s)) ≡ trimOf s
+  unfolding trimPart trimOf
+  trim-taken = rw (q, rest-part)
+
+  pub trim-counted : p .len ≡ length (take (p .len) (take (length s - p .start .0) (drop (p .start .0) s)))
+  unfolding trimPart
+  trim-counted =
+      let d = drop (trimStart s) s in
+      rw (q, rest-part) (trim-count d (trimEnd d) refl)
+
 -- the bytes from a fault's base on
 module _ (t : List ℕ) (b : Place) {e : Fault} {r : PaintRead} (f : r ≡ R.Refused e b) (q : r ≡ parsePaint t) where
   pub base-inside : b .0 ≤ length t
@@ -100,7 +116,7 @@ module _ (t : List ℕ) (b : Place) {e : Fault} {r : PaintRead} (f : r ≡ R.Ref
 pub link-inside : (t : List ℕ) (v : Paint) {r : PaintRead} → r ≡ R.Value v → r ≡ parsePaint t → (s : List ℕ) → t ≡ trimOf s → length s ≤ 4096 → linkStart v ≤ 4096
 link-inside t v f q s w h = omega (arith, parse-paint-link t (sym q ∙ f), trim-small t s w h)
 
-pub ruleset cuts = (trim-small, trim-near, link-inside, base-inside, base-utf8, admitted-small, admitted-utf8)
+pub ruleset cuts = (trim-from, trim-taken, trim-counted, trim-small, trim-near, link-inside, base-inside, base-utf8, admitted-small, admitted-utf8)
 
 pub answer-refused : (t : List ℕ) (i : ℕ) (e : Fault) {x : Refusal} → x ≡ refusalOf (take (length t - i) (drop i t)) e → A.Refused x ≡ A.Refused (refusalOf (drop i t) e)
 answer-refused t i e h = rw (h, rest-part)

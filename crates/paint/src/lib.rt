@@ -174,7 +174,10 @@ pub fn from_str(text: &[u8]) -> PaintAnswer
         Admission::Admitted => {
             let part = stream::trim(text);
             let start = part.start;
-            let trimmed = stream::trimmed(text);
+            let a = start.0;
+            let len = part.len;
+            let rest = &text[a..];
+            let trimmed = &rest[..len];
             match parse_paint(trimmed) {
                 PaintRead::Value(paint) => PaintAnswer::Value(move_paint(paint, start)),
                 PaintRead::Refused(fault, base) => {

@@ -2,7 +2,7 @@ use borrow.Author.Needs.{needs}
 use Rattle.stream.proofs.Edges.{edges}
 use Rattle.stream.proofs.Flows.{flow}
 use Rattle.paint.specs.Answers.{fromStr}
-use Rattle.paint.proofs.Steps.{cuts, answers}
+use Rattle.paint.proofs.Steps.{cuts, trim-taken, answers}
 use Rattle.paint.proofs.from_str.Statement.{statement}
 use Rattle.paint.proofs.from_str.Tie as tie
 
@@ -14,7 +14,10 @@ from-str-spec =
     (λ c. search needs)
     (λ c. search needs)
     (λ c κs. search needs)
-    (λ c κs. search needs)
+    (λ c. search (cuts, needs))
+    (λ c. search (cuts, needs))
+    (λ c. search needs)
+    (λ c. search (cuts, needs))
     (λ c κs. search (cuts, needs))
     (λ c. search needs)
     (λ c κs. search (cuts, needs))
@@ -24,5 +27,5 @@ from-str-spec =
     (λ c. search needs)
     (λ c κs. search (cuts, needs))
     (λ c. unfold fromStr in search (edges, flow, answers, needs) depth 20)
-    (λ c. unfold fromStr in search (edges, flow, answers, needs) depth 20)
-    (λ c. unfold fromStr in search (edges, flow, answers, needs) depth 20))
+    (λ c. unfold fromStr in search (edges, flow, trim-taken, answers, needs) depth 20)
+    (λ c. unfold fromStr in search (edges, flow, trim-taken, answers, c .before .before .before .before .before .before .before .before .before .before .before .before .admit-text, needs) depth 20))
