@@ -76,19 +76,30 @@ fn parse_whole(text: &[u8]) -> LengthRead
     }
 }
 
-// A number, and a unit directly after it.
+// A number, and a unit directly after it. The slice is taken anew and the number built field by field:
+// what is handed on whole is copied by 16 bytes, which wait for the narrower stores of its parts.
 pub fn parse_length(text: &[u8], at: Place) -> LengthRead
     requires { ⌜ length (now text) ≤ 4096 ⌝ }
     ensures { λ r. ⌜ r ≡ parseLength (now (text .entry)) (at .0) ⌝ }
 {
-    match numbers::parse_number(text, at) {
+    match numbers::parse_number(&text[0..], at) {
         NumberRead::Refused(e) => LengthRead::Refused(e),
         NumberRead::Value(n, p) => {
             let i = p.0;
             let unit = unit_at(text, p);
             let width = unit_width(unit);
             let number = n.value;
-            LengthRead::Value(Length { number, unit }, n, Place(i + width))
+            let whole = n.whole;
+            let end = n.end;
+            LengthRead::Value(
+                Length { number, unit },
+                Number {
+                    value: number,
+                    whole,
+                    end,
+                },
+                Place(i + width),
+            )
         }
     }
 }
