@@ -141,7 +141,9 @@ pub fn parse_filter_length(text: &[u8], name: Place, at: Place) -> LengthRead
                     p,
                 ));
             }
-            LengthRead::Value(l, n, p)
+            // Field by field: a length copied whole would wait for the narrower stores of its fields.
+            let number = l.number;
+            LengthRead::Value(Length { number, unit }, n, p)
         }
     }
 }
@@ -166,7 +168,8 @@ fn parse_filter_positive_length(text: &[u8], name: Place, at: Place) -> LengthRe
                     p,
                 ));
             }
-            LengthRead::Value(l, n, p)
+            let number = l.number;
+            LengthRead::Value(Length { number, unit }, n, p)
         }
     }
 }

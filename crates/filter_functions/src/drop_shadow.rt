@@ -14,6 +14,7 @@ use crate::arguments::is_percent;
 use crate::arguments::parse_filter_length;
 use crate::arguments::zero_length;
 use color::ColorRead;
+use length::Length;
 use length::LengthRead;
 use stream::Place;
 use stream::Trouble;
@@ -153,7 +154,9 @@ fn parse_deviation(text: &[u8], at: Place) -> DeviationRead
             if floats::is_sign_negative(l.number) | is_percent(unit) {
                 return DeviationRead::Value(zero_length(), p);
             }
-            DeviationRead::Value(l, stream::skip_spaces(text, p))
+            // Field by field: a length copied whole would wait for the narrower stores of its fields.
+            let number = l.number;
+            DeviationRead::Value(Length { number, unit }, stream::skip_spaces(text, p))
         }
     }
 }
