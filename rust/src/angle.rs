@@ -51,6 +51,7 @@ impl std::str::FromStr for Angle {
     type Err = Error;
 
     /// Parses an angle. Units are lower case; spaces may stand before it and not after it.
+    #[inline]
     fn from_str(text: &str) -> Result<Self, Error> {
         let mut room = Room::new();
         let record = boundary::angle(text, &mut room);

@@ -128,25 +128,34 @@ pub(crate) fn filters<'r, const N: usize>(
     many(homeludaf_filter_all, text, place, room)
 }
 
-/// Values that were read before they were asked for, the first of them to be handed out next.
+/// What was read before it was asked for: values, the first of them to be handed out next, and
+/// the refusal that follows them, if one does.
+///
+/// The order of the fields is given, so that what a new one sets to zero lies together: else the
+/// compiler sets all that lies between to zero, too.
 #[derive(Clone, Copy)]
+#[repr(C)]
 pub(crate) struct Ahead<T: Copy, const N: usize> {
-    values: [MaybeUninit<T>; N],
     next: u8,
     end: u8,
+    refused: bool,
+    values: [MaybeUninit<T>; N],
+    refusal: MaybeUninit<Record>,
 }
 
 impl<T: Copy, const N: usize> Ahead<T, N> {
     #[inline(always)]
     pub(crate) fn new() -> Self {
         Ahead {
-            values: [MaybeUninit::uninit(); N],
             next: 0,
             end: 0,
+            refused: false,
+            values: [MaybeUninit::uninit(); N],
+            refusal: MaybeUninit::uninit(),
         }
     }
 
-    /// Keeps the first `N` of some values, in the place of what was kept.
+    /// Keeps the first `N` of some values, in the place of those that were kept.
     #[inline]
     pub(crate) fn keep(&mut self, values: impl Iterator<Item = T>) {
         self.next = 0;
@@ -166,5 +175,21 @@ impl<T: Copy, const N: usize> Ahead<T, N> {
         self.next += 1;
         // SAFETY: `keep` writes the slots below `end`, and nothing else sets `end` or `next`.
         Some(unsafe { value.assume_init() })
+    }
+
+    #[inline]
+    pub(crate) fn keep_refusal(&mut self, refusal: &Record) {
+        self.refusal.write(*refusal);
+        self.refused = true;
+    }
+
+    #[inline]
+    pub(crate) fn take_refusal(&mut self) -> Option<Record> {
+        if !self.refused {
+            return None;
+        }
+        self.refused = false;
+        // SAFETY: `keep_refusal`, which alone sets `refused`, has written it.
+        Some(unsafe { self.refusal.assume_init() })
     }
 }

@@ -76,6 +76,7 @@ impl std::str::FromStr for Color {
 
     /// Parses a [CSS3](https://www.w3.org/TR/css-color-3/) colour, with or without alpha; also hex
     /// notation of four and eight digits.
+    #[inline]
     fn from_str(text: &str) -> Result<Self, Error> {
         let mut room = Room::new();
         let record = boundary::color(text, &mut room);

@@ -118,7 +118,7 @@ impl FilterValueListParserError {
     }
 
     /// The error of a refused record.
-    #[cold]
+    #[inline]
     fn of(record: &Record, text: &str) -> Self {
         let position = record.position();
         match record.number() {

@@ -15,6 +15,7 @@ impl<'a> IRI<'a> {
     ///
     /// Not by the `FromStr` trait, which wants an owned value.
     #[allow(clippy::should_implement_trait)]
+    #[inline]
     pub fn from_str(text: &'a str) -> Result<Self, Error> {
         link(boundary::iri(text, &mut Room::new()), text).map(Self)
     }
@@ -31,6 +32,7 @@ impl<'a> FuncIRI<'a> {
     ///
     /// Not by the `FromStr` trait, which wants an owned value.
     #[allow(clippy::should_implement_trait)]
+    #[inline]
     pub fn from_str(text: &'a str) -> Result<Self, Error> {
         link(boundary::func_iri(text, &mut Room::new()), text).map(Self)
     }

@@ -64,6 +64,7 @@ impl std::str::FromStr for Length {
     type Err = Error;
 
     /// Parses a length. Units are lower case; spaces may stand before it and not after it.
+    #[inline]
     fn from_str(text: &str) -> Result<Self, Error> {
         let mut room = Room::new();
         let record = boundary::length(text, &mut room);

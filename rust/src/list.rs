@@ -9,11 +9,11 @@ use crate::record::Record;
 ///
 /// Each call into the archive tests the whole text, so a call reads as many values as are kept.
 #[derive(Clone, Copy)]
+#[repr(C)]
 pub(crate) struct Walk<'a, T: Copy, const N: usize> {
     text: &'a str,
     place: usize,
     ahead: Ahead<(T, u16), N>,
-    refused: Option<Record>,
 }
 
 impl<'a, T: Copy, const N: usize> Walk<'a, T, N> {
@@ -23,7 +23,6 @@ impl<'a, T: Copy, const N: usize> Walk<'a, T, N> {
             text,
             place: 0,
             ahead: Ahead::new(),
-            refused: None,
         }
     }
 
@@ -46,8 +45,9 @@ impl<'a, T: Copy, const N: usize> Walk<'a, T, N> {
         value: impl Fn(&Record, &'a str) -> T,
         error: impl Fn(&Record, &str) -> E,
     ) -> Option<Result<T, E>> {
-        if let Some(record) = self.refused {
-            return Some(Err(self.end(error(&record, self.text))));
+        if let Some(record) = self.ahead.take_refusal() {
+            self.end();
+            return Some(Err(error(&record, self.text)));
         }
         if self.place >= self.text.len() {
             return None;
@@ -60,14 +60,15 @@ impl<'a, T: Copy, const N: usize> Walk<'a, T, N> {
         let last = &records[records.len() - 1];
         if let Some(first) = self.take() {
             if last.is_refused() {
-                self.refused = Some(*last);
+                self.ahead.keep_refusal(last);
             }
             return Some(Ok(first));
         }
+        self.end();
         if last.is_refused() {
-            return Some(Err(self.end(error(last, self.text))));
+            return Some(Err(error(last, self.text)));
         }
-        self.end(None)
+        None
     }
 
     /// Ends the list: nothing follows a refusal, nor the word `none`.
@@ -75,10 +76,8 @@ impl<'a, T: Copy, const N: usize> Walk<'a, T, N> {
     /// The place is set by hand, because a refused text (one that is too long) gives the place back
     /// as it came.
     #[inline]
-    fn end<R>(&mut self, answer: R) -> R {
-        self.refused = None;
+    fn end(&mut self) {
         self.place = self.text.len();
-        answer
     }
 }
 

@@ -72,6 +72,7 @@ impl<'a> Paint<'a> {
     ///
     /// Not by the `FromStr` trait, which wants an owned value.
     #[allow(clippy::should_implement_trait)]
+    #[inline]
     pub fn from_str(text: &'a str) -> Result<Self, Error> {
         let mut room = Room::new();
         let record = boundary::paint(text, &mut room);
