@@ -1,10 +1,9 @@
 -- The laws of the loops that hand out many records. Whoever proves such a loop cites them and never opens the definitions.
-use Prim.Native.Nat.{ℕ, suc, _+_, _-_, _*_, _/_, _≤_, _<_}
+use Prim.Native.Nat.{ℕ, zero, suc, _+_, _-_, _*_, _/_, _≤_, _<_}
 use mathlib.Core.Bool.{Bool, true, false, cond}
 use mathlib.Core.List.{List, [], _∷_, _++_, append-nil, append-assoc}
 use mathlib.Core.Path.{_≡_, refl, sym, _∙_}
-use native.Mathlib.Nat.{div-add-mod'}
-use native.Mathlib.Numerals.{add-one}
+use native.Mathlib.Nat.{add-zero, div-add-mod'}
 use native.Mathlib.Omega.{arith}
 use borrow.Author.Tests.{eq-eqb, ne-eqb}
 use lib.Dec.{eqb}
@@ -17,28 +16,25 @@ use Rattle.length.specs.declared.LengthStep.{LengthStep}
 use Rattle.exports.specs.Many.{upTo, fitting, flat, filled, lastPlace, toldOf, filterAt, lengthAt}
 use Rattle.exports.specs.Records.{filterRecord, lengthStepRecord}
 
--- The invariant of the loop that writes a record r at `at`: i of its entries are written
-pub record Putting (o : List ℕ) (at : ℕ) (r : List ℕ) (i : ℕ) (p : List ℕ) : Type 0 where
-  pub list : p ≡ paste o at r i
-  pub some : i ≤ 24
-  pub same : length p ≡ length o
+-- the stores of r's entries 0 .. k from `at` on, one after the other
+unfoldable pub stored : List ℕ → ℕ → List ℕ → ℕ → List ℕ
+stored o at r zero = set o at (getD r 0 0)
+stored o at r (suc k) = set (stored o at r k) (at + suc k) (getD r (suc k) 0)
 
-pub put-start : (o : List ℕ) (at : ℕ) (r : List ℕ) → Putting o at r 0 o
-put-start o at r = record { list = paste-zero o at r; some = omega arith; same = refl }
+module _ (o : List ℕ) (at : ℕ) (r : List ℕ) where
+  pub stored-same : (k : ℕ) → length (stored o at r k) ≡ length o
+  unfolding stored
+  stored-same zero = length-set o at (getD r 0 0)
+  stored-same (suc k) = length-set (stored o at r k) (at + suc k) (getD r (suc k) 0) ∙ stored-same k
 
-module _ {o : List ℕ} {at : ℕ} {r : List ℕ} {i : ℕ} {p : List ℕ} (h : Putting o at r i p) where
-  pub put-go : i < 24 → length r ≡ 24 → at + 24 ≤ length o → Putting o at r (i + 1) (set p (at + i) (getD r i 0))
-  put-go l k m =
-      record {
-        list = rw (h .list, add-one i) (paste-suc o at r i 0 (omega arith) (omega arith));
-        some = omega arith;
-        same = length-set p (at + i) (getD r i 0) ∙ h .same;
-      }
+  -- the store behind them is in bounds
+  pub stored-room : (k : ℕ) → suc k < 24 → at + 24 ≤ length o → at + suc k < length (stored o at r k)
+  stored-room k l m = omega (arith, stored-same k)
 
-  pub put-end : 24 ≤ i → p ≡ paste o at r 24
-  put-end l = let e : i ≡ 24 = omega (arith, h .some) in rw (← e) (h .list)
-
-pub ruleset put-all = (put-start, put-go, put-end)
+  pub stored-paste : (k : ℕ) → at + suc k ≤ length o → suc k ≤ length r → stored o at r k ≡ paste o at r (suc k)
+  unfolding stored
+  stored-paste zero l m = rw (← paste-zero o at r, add-zero at) at (paste-suc o at r 0 0 (omega arith) (omega arith))
+  stored-paste (suc k) l m = rw (stored-paste k (omega arith) (omega arith)) (paste-suc o at r (suc k) 0 (omega arith) (omega arith))
 
 -- one record more
 abbrev behind : List (List ℕ) → List ℕ → List (List ℕ)

@@ -1,3 +1,4 @@
 pub mod Steps
 pub mod Papers
 pub mod Going
+pub mod Single

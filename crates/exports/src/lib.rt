@@ -8,7 +8,6 @@ ghost use Rattle.filter_functions.specs.Filters.{nextFilter};
 ghost use Rattle.funciri.specs.Answers.{iriFromStr, funcIriFromStr};
 ghost use Rattle.length.specs.Lengths as lengths;
 ghost use Rattle.paint.specs.Answers as paints;
-use stream::Place;
 
 mod filters;
 mod many;
@@ -31,12 +30,14 @@ pub extern "C" fn homeludaf_length(text: &[u8], answer: &mut [u64; 24])
     *answer = r;
 }
 
-// One step of a list of lengths, from a list place.
+// One step of a list of lengths, from a list place: the walk with room for one record. So the reader has one caller, and is compiled into it.
 #[no_mangle]
 pub extern "C" fn homeludaf_length_next(text: &[u8], place: usize, answer: &mut [u64; 24])
     ensures { λ _. ⌜ now (answer .exit) ≡ lengthStepRecord (lengths.nextLength (now (text .entry)) place) ⌝ }
 {
-    let r = records::length_step_record(length::next(text, Place(place)));
+    let mut r = [0; 24];
+    let mut t = [0; 2];
+    many::length_steps(text, place, &mut r, &mut t);
     *answer = r;
 }
 
@@ -82,12 +83,14 @@ pub extern "C" fn homeludaf_inherited(own: &[u8], parent: &[u8], answer: &mut [u
     *answer = r;
 }
 
-// One step of a list of filter values, from a list place.
+// One step of a list of filter values, from a list place: the walk with room for one record, as of lengths.
 #[no_mangle]
 pub extern "C" fn homeludaf_filter_next(text: &[u8], place: usize, answer: &mut [u64; 24])
     ensures { λ _. ⌜ now (answer .exit) ≡ filterRecord (nextFilter (now (text .entry)) place) ⌝ }
 {
-    let r = filters::filter_record(filter_functions::next(text, Place(place)));
+    let mut r = [0; 24];
+    let mut t = [0; 2];
+    many::filter_steps(text, place, &mut r, &mut t);
     *answer = r;
 }
 
@@ -103,8 +106,7 @@ pub extern "C" fn homeludaf_filter_all(
     ensures { λ _. ⌜ now (answers .exit) ≡ filled (fitting (filterAt (now (text .entry))) (now (answers .entry)) place) (now (answers .entry)) ⌝ }
     ensures { λ _. ⌜ now (told .exit) ≡ toldOf place (fitting (filterAt (now (text .entry))) (now (answers .entry)) place) ⌝ }
 {
-    let t = many::filter_steps(text, place, answers);
-    *told = t;
+    many::filter_steps(text, place, answers, told);
 }
 
 // The same of a list of lengths.
@@ -118,6 +120,5 @@ pub extern "C" fn homeludaf_length_all(
     ensures { λ _. ⌜ now (answers .exit) ≡ filled (fitting (lengthAt (now (text .entry))) (now (answers .entry)) place) (now (answers .entry)) ⌝ }
     ensures { λ _. ⌜ now (told .exit) ≡ toldOf place (fitting (lengthAt (now (text .entry))) (now (answers .entry)) place) ⌝ }
 {
-    let t = many::length_steps(text, place, answers);
-    *told = t;
+    many::length_steps(text, place, answers, told);
 }

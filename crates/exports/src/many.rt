@@ -19,16 +19,35 @@ use length::LengthStep;
 use stream::Admission;
 use stream::Place;
 
-// A record, written at `at`.
+// A record, written at `at`: entry by entry, since a loop is compiled to a copy of memory, which waits until the whole record is stored.
 fn put(out: &mut [u64], at: usize, r: [u64; 24])
     requires { ⌜ at + 24 ≤ length (now out) ⌝ }
     ensures { λ _. ⌜ now (out .exit) ≡ paste (now (out .entry)) at r 24 ⌝ }
 {
-    let mut i = 0;
-    while i < 24 {
-        out[at + i] = r[i];
-        i += 1;
-    }
+    out[at] = r[0];
+    out[at + 1] = r[1];
+    out[at + 2] = r[2];
+    out[at + 3] = r[3];
+    out[at + 4] = r[4];
+    out[at + 5] = r[5];
+    out[at + 6] = r[6];
+    out[at + 7] = r[7];
+    out[at + 8] = r[8];
+    out[at + 9] = r[9];
+    out[at + 10] = r[10];
+    out[at + 11] = r[11];
+    out[at + 12] = r[12];
+    out[at + 13] = r[13];
+    out[at + 14] = r[14];
+    out[at + 15] = r[15];
+    out[at + 16] = r[16];
+    out[at + 17] = r[17];
+    out[at + 18] = r[18];
+    out[at + 19] = r[19];
+    out[at + 20] = r[20];
+    out[at + 21] = r[21];
+    out[at + 22] = r[22];
+    out[at + 23] = r[23];
 }
 
 // Whether a UTF-8 text has a character's first byte, or its end, at a place.
@@ -104,9 +123,9 @@ fn length_step(text: &[u8], admission: Admission, place: Place) -> LengthStep
     }
 }
 
-pub fn filter_steps(text: &[u8], place: usize, answers: &mut [u64]) -> [u64; 2]
+pub fn filter_steps(text: &[u8], place: usize, answers: &mut [u64], told: &mut [u64; 2])
     ensures { λ _. ⌜ now (answers .exit) ≡ filled (fitting (filterAt (now (text .entry))) (now (answers .entry)) place) (now (answers .entry)) ⌝ }
-    ensures { λ r. ⌜ r ≡ toldOf place (fitting (filterAt (now (text .entry))) (now (answers .entry)) place) ⌝ }
+    ensures { λ _. ⌜ now (told .exit) ≡ toldOf place (fitting (filterAt (now (text .entry))) (now (answers .entry)) place) ⌝ }
 {
     let admission = stream::admit_text(text);
     let room = answers.len() / 24;
@@ -118,15 +137,16 @@ pub fn filter_steps(text: &[u8], place: usize, answers: &mut [u64]) -> [u64; 2]
         n += 1;
         at = r[8] as usize;
         if r[7] != 0 {
-            return [n as u64, at as u64];
+            *told = [n as u64, at as u64];
+            return;
         }
     }
-    [n as u64, at as u64]
+    *told = [n as u64, at as u64];
 }
 
-pub fn length_steps(text: &[u8], place: usize, answers: &mut [u64]) -> [u64; 2]
+pub fn length_steps(text: &[u8], place: usize, answers: &mut [u64], told: &mut [u64; 2])
     ensures { λ _. ⌜ now (answers .exit) ≡ filled (fitting (lengthAt (now (text .entry))) (now (answers .entry)) place) (now (answers .entry)) ⌝ }
-    ensures { λ r. ⌜ r ≡ toldOf place (fitting (lengthAt (now (text .entry))) (now (answers .entry)) place) ⌝ }
+    ensures { λ _. ⌜ now (told .exit) ≡ toldOf place (fitting (lengthAt (now (text .entry))) (now (answers .entry)) place) ⌝ }
 {
     let admission = stream::admit_text(text);
     let room = answers.len() / 24;
@@ -138,8 +158,9 @@ pub fn length_steps(text: &[u8], place: usize, answers: &mut [u64]) -> [u64; 2]
         n += 1;
         at = r[8] as usize;
         if r[7] != 0 {
-            return [n as u64, at as u64];
+            *told = [n as u64, at as u64];
+            return;
         }
     }
-    [n as u64, at as u64]
+    *told = [n as u64, at as u64];
 }

@@ -6,10 +6,10 @@ use Rattle.exports.proofs.many.filter_steps.Statement.{statement}
 use Rattle.exports.proofs.many.filter_steps.Tie as tie
 
 abbrev Inv-loop : tie.InvT-loop
-Inv-loop text place answers₀ admission room n₀ at₀ answers n at = Going (filterAt text) place answers₀ n at answers
+Inv-loop text place answers₀ told₀ admission room n₀ at₀ answers told n at = Going (filterAt text) place answers₀ n at answers
 
 abbrev μ-loop : tie.MeasureT-loop
-μ-loop text place answers₀ admission room n₀ at₀ answers n at = room - n
+μ-loop text place answers₀ told₀ admission room n₀ at₀ answers told n at = room - n
 
 pub filter-steps-spec : {M : Type 1} → statement M
 filter-steps-spec =
@@ -27,8 +27,8 @@ filter-steps-spec =
     (λ c. search needs)
     (λ c. search needs)
     (λ c. search (going, needs) depth 10)
-    (λ c. going-stop (c .before .before .before .before .before .before .before .before .loop .inv) (c .before .before .before .before .before .filter-record .result) (search needs) (search needs) (search (going, needs)) (search needs) (search needs))
+    (λ c. going-stop (c .before .before .before .before .before .before .before .before .before .loop .inv) (c .before .before .before .before .before .before .filter-record .result) (search needs) (search needs) (search (going, needs)) (search needs) (search needs))
     (λ c. search needs)
     (λ c. search (going, needs) depth 10)
     (λ c. search (going, needs) depth 10)
-    (λ c. going-full (c .before .loop .inv) (search needs)))
+    (λ c. going-full (c .before .before .loop .inv) (search needs)))

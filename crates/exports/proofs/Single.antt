@@ -1,0 +1,74 @@
+-- The walk with room for one record is one step, since the record of a step has 24 entries.
+use Prim.Native.Nat.{ℕ, _/_}
+use mathlib.Core.Bool.{Bool, true, false, cond}
+use mathlib.Core.List.{List, [], append-nil}
+use mathlib.Core.Path.{_≡_, refl, sym, _∙_}
+use lib.Dec.{eqb}
+use lib.ListN.{length, getD}
+use lib.Seq.{drop-length}
+use Rattle.filter_functions.specs.Filters.{nextFilter}
+use Rattle.filter_functions.specs.declared.FilterStep.{FilterStep}
+use Rattle.filter_functions.specs.declared.FilterStep.the-variants as T
+use Rattle.filter_functions.specs.declared.FilterValue.{FilterValue}
+use Rattle.filter_functions.specs.declared.FilterValue.the-variants as G
+use Rattle.filter_functions.specs.declared.Shadow.{Shadow}
+use Rattle.filter_functions.specs.declared.ShadowColor.{ShadowColor}
+use Rattle.filter_functions.specs.declared.ShadowColor.the-variants as H
+use Rattle.length.specs.Lengths.{nextLength}
+use Rattle.length.specs.declared.LengthStep.{LengthStep}
+use Rattle.length.specs.declared.LengthStep.the-variants as S
+use Rattle.exports.specs.Many.{upTo, fitting, flat, filled, filterAt, lengthAt}
+use Rattle.exports.specs.Records.{row, lengthStepRecord, shadowRow, filterRow, filterRecord}
+
+length-entries : (x : LengthStep) → length (lengthStepRecord x) ≡ 24
+unfolding row lengthStepRecord
+length-entries (S.Value l p) = refl
+length-entries (S.End p) = refl
+length-entries (S.Refused e p) = refl
+
+shadow-entries : (place : ℕ) (d : Shadow) (c : ShadowColor) → length (shadowRow place d c) ≡ 24
+unfolding row shadowRow
+shadow-entries place d H.None = refl
+shadow-entries place d (H.Some c) = refl
+
+value-entries : (place : ℕ) (v : FilterValue) → length (filterRow place v) ≡ 24
+unfolding row filterRow
+value-entries place (G.Blur l) = refl
+value-entries place (G.DropShadow d) = shadow-entries place d (d .color)
+value-entries place (G.Brightness x) = refl
+value-entries place (G.Contrast x) = refl
+value-entries place (G.Grayscale x) = refl
+value-entries place (G.HueRotate a) = refl
+value-entries place (G.Invert x) = refl
+value-entries place (G.Opacity x) = refl
+value-entries place (G.Sepia x) = refl
+value-entries place (G.Saturate x) = refl
+value-entries place (G.Url link) = refl
+
+filter-entries : (x : FilterStep) → length (filterRecord x) ≡ 24
+unfolding row filterRecord
+filter-entries (T.Value v p) = value-entries (p .0) v
+filter-entries (T.End p) = refl
+filter-entries (T.NoneWord p) = refl
+filter-entries (T.Refused e p) = refl
+
+no-room : (b : Bool) → flat (cond b [] []) ≡ []
+unfolding flat
+no-room true = refl
+no-room false = refl
+
+one-step : (step : ℕ → List ℕ) (i : ℕ) (o : List ℕ) → length o ≡ 24 → length (step i) ≡ 24 → filled (fitting step o i) o ≡ step i
+unfolding upTo flat
+one-step step i o e l =
+    let q : length o / 24 ≡ 1 = rw e in
+    let f : flat (upTo step 1 i) ≡ step i = rw (no-room (eqb (getD (step i) 7 0) 0)) (append-nil (step i)) in
+    let g : length (step i) ≡ length o = l ∙ sym e in
+    rw (q, f, g, drop-length o) (append-nil (step i))
+
+pub filter-single : (s : List ℕ) (i : ℕ) (o r : List ℕ) → r ≡ filled (fitting (filterAt s) o i) o → length o ≡ 24 → r ≡ filterAt s i
+filter-single s i o r q e = q ∙ one-step (filterAt s) i o e (filter-entries (nextFilter s i))
+
+pub length-single : (s : List ℕ) (i : ℕ) (o r : List ℕ) → r ≡ filled (fitting (lengthAt s) o i) o → length o ≡ 24 → r ≡ lengthAt s i
+length-single s i o r q e = q ∙ one-step (lengthAt s) i o e (length-entries (nextLength s i))
+
+pub ruleset single = (filter-single, length-single)
