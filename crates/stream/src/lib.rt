@@ -130,11 +130,14 @@ pub fn is_space(b: u8) -> bool
     (b == b' ') | ((b == b'\t') | ((b == b'\n') | (b == b'\r')))
 }
 
+// A byte of a word. Small letters, which most of them are, are seen first.
 pub fn is_ascii_ident(b: u8) -> bool
     ensures { λ r. ⌜ r ≡ isAsciiIdent b ⌝ }
 {
-    is_digit(b)
-        | (in_range(b, b'A', b'Z') | (in_range(b, b'a', b'z') | ((b == b'-') | (b == b'_'))))
+    if in_range(b, b'a', b'z') {
+        return true;
+    }
+    is_digit(b) | (in_range(b, b'A', b'Z') | ((b == b'-') | (b == b'_')))
 }
 
 // A byte that continues a character.
