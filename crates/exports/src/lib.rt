@@ -35,10 +35,8 @@ pub extern "C" fn homeludaf_length(text: &[u8], answer: &mut [u64; 24])
 pub extern "C" fn homeludaf_length_next(text: &[u8], place: usize, answer: &mut [u64; 24])
     ensures { λ _. ⌜ now (answer .exit) ≡ lengthStepRecord (lengths.nextLength (now (text .entry)) place) ⌝ }
 {
-    let mut r = [0; 24];
     let mut t = [0; 2];
-    many::length_steps(text, place, &mut r, &mut t);
-    *answer = r;
+    many::length_steps(text, place, answer, &mut t);
 }
 
 // An angle, with its degrees.
@@ -88,10 +86,8 @@ pub extern "C" fn homeludaf_inherited(own: &[u8], parent: &[u8], answer: &mut [u
 pub extern "C" fn homeludaf_filter_next(text: &[u8], place: usize, answer: &mut [u64; 24])
     ensures { λ _. ⌜ now (answer .exit) ≡ filterRecord (nextFilter (now (text .entry)) place) ⌝ }
 {
-    let mut r = [0; 24];
     let mut t = [0; 2];
-    many::filter_steps(text, place, &mut r, &mut t);
-    *answer = r;
+    many::filter_steps(text, place, answer, &mut t);
 }
 
 // The steps of a list of filter values from a list place on: whole records, one after the other, up to and with the first that is no value, as many as fit.

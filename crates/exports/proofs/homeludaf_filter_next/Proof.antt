@@ -7,6 +7,5 @@ pub homeludaf-filter-next-spec : {M : Type 1} → statement M
 homeludaf-filter-next-spec =
     tie.close
     (tie.spec
-    (λ c. search needs)
     (λ c κs. search needs)
     (λ c. search (single, needs)))

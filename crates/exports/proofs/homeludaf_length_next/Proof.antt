@@ -7,6 +7,5 @@ pub homeludaf-length-next-spec : {M : Type 1} → statement M
 homeludaf-length-next-spec =
     tie.close
     (tie.spec
-    (λ c. search needs)
     (λ c κs. search needs)
     (λ c. search (single, needs)))
