@@ -78,8 +78,6 @@ module _ (a b c : ℕ) {r : Bool} (q : r ≡ within 33 127 a) (e : r ≡ true) w
         high 0xaf (lit≤ tt),
       )
 
-pub ruleset plain = (plain-len, plain-end)
-
 -- the white space at the front of the rest is the one at i
 pub blank-drop : (s : List ℕ) (i : ℕ) → blankAt (drop i s) 0 ≡ blankAt s i
 unfolding blankAt

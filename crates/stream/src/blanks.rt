@@ -46,9 +46,6 @@ fn blank_len(a: u8, b: u8, c: u8) -> usize
     ensures { λ r. ⌜ r ≡ blankLen a b c ⌝ }
     ensures { λ r. ⌜ r ≤ 3 ⌝ }
 {
-    if is_plain(a) {
-        return 0;
-    }
     if is_blank1(a) {
         return 1;
     }
@@ -65,9 +62,6 @@ fn blank_len(a: u8, b: u8, c: u8) -> usize
 fn blank_end(a: u8, b: u8, c: u8) -> usize
     ensures { λ r. ⌜ r ≡ blankEnd a b c ⌝ }
 {
-    if is_plain(a) {
-        return 0;
-    }
     if is_blank1(a) {
         return 1;
     }
@@ -86,7 +80,11 @@ fn blank_at(text: &[u8], at: usize) -> usize
     ensures { λ r. ⌜ r ≡ blankAt (now (text .entry)) at ⌝ }
     ensures { λ r. ⌜ r ≤ 3 ⌝ }
 {
-    blank_len(text[at], byte_at(text, at + 1), byte_at(text, at + 2))
+    let a = text[at];
+    if is_plain(a) {
+        return 0;
+    }
+    blank_len(a, byte_at(text, at + 1), byte_at(text, at + 2))
 }
 
 // The byte that stands so many before a place, 0 for none.
@@ -100,11 +98,11 @@ fn byte_before(text: &[u8], end: usize, k: usize) -> u8
 fn blank_before(text: &[u8], end: usize) -> usize
     ensures { λ r. ⌜ r ≡ blankBefore (now (text .entry)) end ⌝ }
 {
-    blank_end(
-        byte_before(text, end, 1),
-        byte_before(text, end, 2),
-        byte_before(text, end, 3),
-    )
+    let a = byte_before(text, end, 1);
+    if is_plain(a) {
+        return 0;
+    }
+    blank_end(a, byte_before(text, end, 2), byte_before(text, end, 3))
 }
 
 // Where a text starts without its leading white space.

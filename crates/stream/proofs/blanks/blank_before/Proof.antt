@@ -1,4 +1,6 @@
-use Rattle.stream.specs.Blanks.{blankBefore}
+use Rattle.stream.specs.Blanks.{blankBefore, byteBefore}
+use Rattle.stream.proofs.Trimming.{plain-end}
+use denote.Ref.{now}
 use borrow.Author.Needs.{needs}
 use Rattle.stream.proofs.blanks.blank_before.Statement.{statement}
 use Rattle.stream.proofs.blanks.blank_before.Tie as tie
@@ -8,6 +10,11 @@ blank-before-spec =
     tie.close
     (tie.spec
     (λ c κs. search needs)
+    (λ c κs. search needs)
+    (λ c.
+    let s = now (c .before .before .before .before .args .text) in
+    let e = c .before .before .before .before .args .end in
+    unfold blankBefore in plain-end (byteBefore s e 1) (byteBefore s e 2) (byteBefore s e 3) {r = c .before .is-plain .result} (cc) (cc))
     (λ c κs. search needs)
     (λ c κs. search needs)
     (λ c κs. search needs)

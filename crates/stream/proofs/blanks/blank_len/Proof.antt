@@ -1,5 +1,4 @@
 use Rattle.stream.proofs.Flows.{flow}
-use Rattle.stream.proofs.Trimming.{plain}
 use Rattle.stream.specs.Blanks.{blankLen}
 use borrow.Author.Needs.{needs}
 use Rattle.stream.proofs.blanks.blank_len.Statement.{statement}
@@ -9,8 +8,6 @@ pub blank-len-spec : {M : Type 1} → statement M
 blank-len-spec =
     tie.close
     (tie.spec
-    (λ c κs. search needs)
-    (λ c. search (plain, needs))
     (λ c κs. search needs)
     (λ c. unfold blankLen in search (flow, needs) depth 20)
     (λ c κs. search needs)
