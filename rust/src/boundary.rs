@@ -166,15 +166,16 @@ impl<T: Copy, const N: usize> Ahead<T, N> {
         }
     }
 
+    /// The next of the values, where it lies: who wants it copies it once, to where it is wanted.
     #[inline]
-    pub(crate) fn take(&mut self) -> Option<T> {
+    pub(crate) fn take(&mut self) -> Option<&T> {
         if self.next == self.end {
             return None;
         }
         let value = &self.values[usize::from(self.next)];
         self.next += 1;
         // SAFETY: `keep` writes the slots below `end`, and nothing else sets `end` or `next`.
-        Some(unsafe { value.assume_init() })
+        Some(unsafe { value.assume_init_ref() })
     }
 
     #[inline]

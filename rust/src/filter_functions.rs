@@ -203,7 +203,7 @@ impl<'a> Iterator for FilterValueListParser<'a> {
     #[inline]
     fn next(&mut self) -> Option<Self::Item> {
         if let Some(value) = self.0.take() {
-            return Some(Ok(value));
+            return Some(Ok(*value));
         }
         self.read()
     }

@@ -104,7 +104,7 @@ impl Iterator for LengthListParser<'_> {
     #[inline]
     fn next(&mut self) -> Option<Self::Item> {
         if let Some(length) = self.0.take() {
-            return Some(Ok(length));
+            return Some(Ok(*length));
         }
         self.read()
     }

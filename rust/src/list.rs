@@ -28,9 +28,9 @@ impl<'a, T: Copy, const N: usize> Walk<'a, T, N> {
 
     /// The next value, if it has been read already.
     #[inline]
-    pub(crate) fn take(&mut self) -> Option<T> {
+    pub(crate) fn take(&mut self) -> Option<&T> {
         let (value, place) = self.ahead.take()?;
-        self.place = usize::from(place);
+        self.place = usize::from(*place);
         Some(value)
     }
 
@@ -58,11 +58,11 @@ impl<'a, T: Copy, const N: usize> Walk<'a, T, N> {
         self.ahead
             .keep(values.map(|record| (value(record, self.text), record.list_place() as u16)));
         let last = &records[records.len() - 1];
-        if let Some(first) = self.take() {
+        if records[0].is_value() {
             if last.is_refused() {
                 self.ahead.keep_refusal(last);
             }
-            return Some(Ok(first));
+            return self.take().map(|value| Ok(*value));
         }
         self.end();
         if last.is_refused() {
