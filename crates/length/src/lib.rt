@@ -167,8 +167,15 @@ pub fn parse_list_length(text: &[u8], at: Place) -> LengthRead
     match parse_length(text, at) {
         LengthRead::Refused(e) => LengthRead::Refused(e),
         LengthRead::Value(l, n, p) => {
+            // field by field, as in `parse_length`
+            let number = l.number;
+            let unit = l.unit;
             let next = stream::skip_spaces(text, p);
-            LengthRead::Value(l, n, stream::parse_list_separator(text, next))
+            LengthRead::Value(
+                Length { number, unit },
+                n,
+                stream::parse_list_separator(text, next),
+            )
         }
     }
 }
