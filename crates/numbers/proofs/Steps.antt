@@ -1,6 +1,6 @@
 -- One law for each return of the number reader: from what the calls answered to what the definition says.
 use Prim.Native.Nat.{ℕ, _+_, _-_, _≤_, _<_, min}
-use mathlib.Core.Bool.{Bool, true, false, _||_, not, cond}
+use mathlib.Core.Bool.{Bool, true, false, _&&_, _||_, not, cond, true≢false}
 use mathlib.Core.List.{List}
 use mathlib.Core.Path.{_≡_, refl, sym, _∙_}
 use mathlib.Core.Logic.{⊎-elim}
@@ -9,18 +9,19 @@ use lib.IntN.{pos}
 use lib.Ieee.{Float, binary64, ofInt, mul, div, neg, inFloat}
 use lib.ListN.{length, getD, drop, List·getD-eq-default}
 use native.Mathlib.Omega.{arith}
-use borrow.Author.Tests.{ne-eqb, le-leb, lt-leb, le-ltb, lt-ltb}
+use borrow.Author.Tests.{ne-eqb, le-leb, lt-leb, le-ltb, lt-ltb, ltb-true}
 use Rattle.stream.specs.Bytes.{isDigit, isSign}
 use Rattle.stream.specs.Faults.{place}
 use Rattle.stream.specs.Scan.{scan}
 use Rattle.stream.specs.declared.Fault.{Fault}
 use Rattle.stream.specs.declared.Place.{Place}
 use Rattle.stream.specs.declared.Trouble.the-variants as T
+use Rattle.stream.proofs.Octets.{and-first, and-second}
 use Rattle.stream.proofs.Ranges.{lt-or-le}
 use Rattle.stream.proofs.Scans.{run-inside}
 use Rattle.numbers.proofs.Sums.{capped}
 use Rattle.numbers.specs.Digits.{value, cap}
-use Rattle.numbers.specs.Held.{heldMantissa, heldExponent}
+use Rattle.numbers.specs.Held.{heldMantissa, heldExponent, wholeNumber}
 use Rattle.numbers.specs.Moves.{thenNumber}
 use Rattle.numbers.specs.Number.{afterSign, mantissaAt, mantissaDot, exponentAt, exponentFrom, noExponent, scaleOf, valueOf, refusedAt, scaled, finished, numberFrom}
 use Rattle.numbers.specs.Powers.{powerOf}
@@ -205,6 +206,25 @@ module _ (s : List ℕ) (start : ℕ) {b from : ℕ} {m : Mantissa} {e : Exponen
       simp (← p, ← q) (y ∙ held (eqb b 45) (mantissaAt s from) (exponentAt s ((mantissaAt s from) .end)) start (omega (arith, fraction-le s from)))
 
 pub ruleset readings = (exponent-small, fraction-small, number-from)
+
+neither : (a b : Bool) → not (a || b) ≡ true → (a ≡ false) × (b ≡ false)
+neither true b e = absurd (true≢false (sym e))
+neither false b e = (refl, not-true b e)
+
+-- a run of digits that nothing follows is the number: t is what the test of the byte after it answered
+module _ (s : List ℕ) (start : ℕ) {b from last n x : ℕ} {t : Bool} (p : b ≡ getD s start 0) (q : from ≡ afterSign s start) (d : last ≡ scan isDigit s from) (v : n ≡ min cap (value 0 (drop from s))) (y : x ≡ getD s last 0) (w : t ≡ not (eqb x 46 || (eqb x 101 || eqb x 69))) (h : (t && (ltb from last && ltb n cap)) ≡ true) where
+  pub whole-small : n < cap
+  whole-small = ltb-true n cap (and-second (ltb from last) (ltb n cap) (and-second t (ltb from last && ltb n cap) h))
+
+  pub whole-read : {r : NumberRead} → r ≡ wholeNumber (eqb b 45) n last → r ≡ numberFrom s start
+  unfolding numberFrom mantissaAt mantissaDot exponentAt finished scaled scaleOf
+  whole-read z =
+      let after : (eqb x 46 ≡ false) × ((eqb x 101 || eqb x 69) ≡ false) = neither (eqb x 46) (eqb x 101 || eqb x 69) (sym w ∙ and-first t (ltb from last && ltb n cap) h) in
+      let some : ltb from last ≡ true = and-first (ltb from last) (ltb n cap) (and-second t (ltb from last && ltb n cap) h) in
+      let same : value 0 (drop from s) ≡ n = omega (arith, whole-small, v) in
+      simp (← p, ← q, ← d, ← y, after .0, after .1, some, same, lt-ltb n cap whole-small) z
+
+pub ruleset wholes = (whole-small, whole-read)
 
 -- a fault that a call made
 pub numberread-refused : {e f : Fault} → e ≡ f → N.Refused e ≡ N.Refused f

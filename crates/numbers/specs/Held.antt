@@ -1,8 +1,13 @@
--- What the code holds of a value: no more than the cap. Only contracts inside the crate speak of it.
+-- What the code holds of a value: no more than the cap; and a number of digits alone. Only contracts inside the crate speak of it.
 use Prim.Native.Nat.{ℕ, _+_, _-_, _*_, min}
+use mathlib.Core.Bool.{Bool, true, false}
+use Rattle.stream.specs.Faults.{place}
 use Rattle.numbers.specs.Digits.{cap}
 use Rattle.numbers.specs.declared.Mantissa.{Mantissa}
+use Rattle.numbers.specs.Number.{valueOf}
 use Rattle.numbers.specs.declared.Exponent.{Exponent}
+use Rattle.numbers.specs.declared.NumberRead.{NumberRead}
+use Rattle.numbers.specs.declared.NumberRead.the-variants as N
 
 -- one digit more
 abbrev pub push : ℕ → ℕ → ℕ
@@ -13,3 +18,7 @@ heldMantissa m = record { ok = m .ok; value = min cap (m .value); fraction = m .
 
 abbrev pub heldExponent : Exponent → Exponent
 heldExponent e = record { ok = e .ok; minus = e .minus; value = min cap (e .value); written = e .written; end = e .end }
+
+-- a number of digits alone, which ends at `end`
+abbrev pub wholeNumber : Bool → ℕ → ℕ → NumberRead
+wholeNumber minus m end = N.Value (record { value = valueOf minus m false 0; whole = true; end = place end }) (place end)

@@ -1,14 +1,15 @@
 // Decimal text to f64: a number, a number of a list, and either with a `%`.
 ghost use mathlib.Core.Path.{_≡_};
-ghost use mathlib.Core.Bool.{true, cond};
+ghost use mathlib.Core.Bool.{true, cond, not, _||_};
 ghost use Prim.Native.Nat.{_≤_, _<_, min};
+ghost use lib.Dec.{eqb};
 ghost use lib.Ieee.{neg};
 ghost use lib.ListN.{drop, length};
 ghost use Rattle.stream.specs.Bytes.{isDigit};
 ghost use Rattle.stream.specs.Scan.{scan};
 ghost use Rattle.numbers.specs.Digits.{cap, value};
 ghost use Rattle.numbers.specs.Powers.{powerOf};
-ghost use Rattle.numbers.specs.Held.{push, heldMantissa, heldExponent};
+ghost use Rattle.numbers.specs.Held.{push, heldMantissa, heldExponent, wholeNumber};
 ghost use Rattle.numbers.specs.Number.{startsNumber, afterSign, mantissaAt, exponentFrom, noExponent, exponentAt, scaleOf, valueOf, refusedAt, scaled, finished, numberFrom, parseNumber, parseNumberOrPercent, afterItem, parseListNumber, parseListNumberOrPercent};
 use stream::Fault;
 use stream::Place;
@@ -138,10 +139,12 @@ fn after_sign(text: &[u8], at: usize) -> usize
     at
 }
 
-fn mantissa_at(text: &[u8], at: usize) -> Mantissa
+// The mantissa whose first run of digits has been read.
+fn mantissa_at(text: &[u8], at: usize, whole: Digits) -> Mantissa
+    requires { ⌜ whole .end ≡ scan isDigit (now text) at ⌝ }
+    requires { ⌜ whole .value ≡ min cap (value 0 (drop at (now text))) ⌝ }
     ensures { λ r. ⌜ r ≡ heldMantissa (mantissaAt (now (text .entry)) at) ⌝ }
 {
-    let whole = read_digits(text, at, 0);
     let dot = whole.end;
     let n = whole.value;
     if stream::byte_at(text, dot) == b'.' {
@@ -296,13 +299,44 @@ fn finish(minus: bool, m: Mantissa, e: Exponent, start: Place) -> NumberRead
     refused_at(Trouble::TooLarge, start, end)
 }
 
+// Whether a run of digits ends with this byte after it: neither a fraction nor an exponent may follow.
+fn ends_whole(b: u8) -> bool
+    ensures { λ r. ⌜ r ≡ not (eqb b 46 || (eqb b 101 || eqb b 69)) ⌝ }
+{
+    !((b == b'.') | ((b == b'e') | (b == b'E')))
+}
+
+fn whole_number(minus: bool, m: u64, end: usize) -> NumberRead
+    requires { ⌜ m < cap ⌝ }
+    ensures { λ r. ⌜ r ≡ wholeNumber minus m end ⌝ }
+{
+    let value = value_of(minus, m, false, 0);
+    NumberRead::Value(
+        Number {
+            value,
+            whole: true,
+            end: Place(end),
+        },
+        Place(end),
+    )
+}
+
+// Most numbers are digits alone: they are told before a fraction and an exponent are looked for.
 fn number_from(text: &[u8], start: Place) -> NumberRead
     requires { ⌜ length (now text) ≤ 4096 ⌝ }
     ensures { λ r. ⌜ r ≡ numberFrom (now (text .entry)) (start .0) ⌝ }
 {
     let i = start.0;
     let b = stream::byte_at(text, i);
-    let m = mantissa_at(text, after_sign(text, i));
+    let from = after_sign(text, i);
+    let whole = read_digits(text, from, 0);
+    let last = whole.end;
+    let n = whole.value;
+    let c = stream::byte_at(text, last);
+    if ends_whole(c) & ((from < last) & (n < LIMIT)) {
+        return whole_number(b == b'-', n, last);
+    }
+    let m = mantissa_at(text, from, whole);
     let end = m.end;
     let e = exponent_at(text, end);
     finish(b == b'-', m, e, start)

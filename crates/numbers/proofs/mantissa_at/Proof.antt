@@ -10,7 +10,6 @@ mantissa-at-spec =
     tie.close
     (tie.spec
     (λ c κs. search needs)
-    (λ c κs. search needs)
     (λ c. search (next-fits, needs))
     (λ c κs. search needs)
     (λ c. search (from-scan, needs))

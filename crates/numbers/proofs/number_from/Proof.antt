@@ -1,4 +1,4 @@
-use Rattle.numbers.proofs.Steps.{readings}
+use Rattle.numbers.proofs.Steps.{readings, wholes}
 use borrow.Author.Needs.{needs}
 use Rattle.numbers.proofs.number_from.Statement.{statement}
 use Rattle.numbers.proofs.number_from.Tie as tie
@@ -9,6 +9,11 @@ number-from-spec =
     (tie.spec
     (λ c κs. search needs)
     (λ c κs. search needs)
+    (λ c κs. search needs)
+    (λ c κs. search needs)
+    (λ c κs. search needs)
+    (λ c κs. search (wholes, needs))
+    (λ c. search (wholes, needs))
     (λ c κs. search needs)
     (λ c κs. search needs)
     (λ c κs. search (readings, needs))
