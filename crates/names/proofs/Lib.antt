@@ -1,4 +1,3 @@
-pub mod Orders
 pub mod Tables
 pub mod Naming
 pub mod Lent

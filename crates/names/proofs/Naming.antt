@@ -1,49 +1,37 @@
 -- What a word names: the laws of the definition.
-use Prim.Native.Nat.{ℕ, zero, suc, _≤_, _<_}
+use Prim.Native.Nat.{ℕ, suc, _≤_, _<_}
 use mathlib.Core.Bool.{false}
 use mathlib.Core.List.{List, [], _∷_}
 use mathlib.Core.Path.{_≡_, refl, sym, ap, _∙_}
 use native.Mathlib.Omega.{arith}
 use lib.ListN.{length, getD}
 use Rattle.stream.specs.Words.{ascii, same, lowerOf, lowered}
-use Rattle.stream.proofs.Wording.{same-refl, same-eq}
+use Rattle.stream.proofs.Wording.{same-eq}
 use Rattle.stream.specs.Bytes.{within}
 use Rattle.stream.proofs.Ranges.{either, within-ge, within-le}
 use Rattle.names.specs.Keywords.{Keyword, entry, keywords}
 use Rattle.names.specs.Look.{channels, lookUp, namedOf}
 use Rattle.names.specs.Search.{nth, Begins}
 use Rattle.names.specs.declared.Named.the-variants as N
-use Rattle.names.proofs.Orders.{before-other}
-use Rattle.names.proofs.Tables.{table-count, table-order, table-letter}
+use Rattle.names.proofs.Tables.{table-count, table-look, table-letter}
 
 same-not : (a b : List ℕ) → (b ≡ a → ⊥) → same a b ≡ false
 same-not a b f = either (same a b) (λ e. absurd (f (sym (same-eq a b e)))) (λ e. e)
 
--- the laws of going through any table
+-- a word that is the name of no entry of a table
 abbrev at : List Keyword → ℕ → Keyword
 at es k = getD es k (entry "" 0 0 0)
 
-module _ (w : List ℕ) where
-  look-at : (es : List Keyword) (m : ℕ) → m < length es → at es m .name ≡ w → ((j : ℕ) → j < m → at es j .name ≡ w → ⊥)
-      → lookUp es w ≡ N.Keyword (channels (at es m))
-  unfolding lookUp
-  look-at [] m h e f = absurd (omega arith)
-  look-at (x ∷ xs) zero h e f = simp (e, same-refl w)
-  look-at (x ∷ xs) (suc m) h e f =
-      simp (same-not w (x .name) (f 0 (omega arith))) (look-at xs m (omega arith) e (λ j l. f (suc j) (omega arith)))
-
-  look-none : (es : List Keyword) → ((j : ℕ) → j < length es → at es j .name ≡ w → ⊥) → lookUp es w ≡ lookUp [] w
-  unfolding lookUp
-  look-none [] f = refl
-  look-none (x ∷ xs) f = simp (same-not w (x .name) (f 0 (omega arith))) (look-none xs (λ j l. f (suc j) (omega arith)))
+look-none : (w : List ℕ) (es : List Keyword) → ((j : ℕ) → j < length es → at es j .name ≡ w → ⊥) → lookUp es w ≡ lookUp [] w
+unfolding lookUp
+look-none w [] f = refl
+look-none w (x ∷ xs) f = simp (same-not w (x .name) (f 0 (omega arith))) (look-none w xs (λ j l. f (suc j) (omega arith)))
 
 module _ (w : List ℕ) where
   -- an entry's name, in letters of either case, is its colour
   pub named-keyword : (k : ℕ) → k < 147 → nth k .name ≡ lowered w → namedOf w ≡ N.Keyword (channels (nth k))
   unfolding namedOf
-  named-keyword k h e =
-      look-at (lowered w) keywords k (omega (arith, table-count)) e
-      (λ j l f. before-other (nth j .name) (nth k .name) (table-order j k l h) (f ∙ sym e))
+  named-keyword k h e = ap (lookUp keywords) (sym e) ∙ table-look k h
 
   -- no entry's name: what is left is `transparent`
   pub named-unlisted : ((k : ℕ) → k < 147 → nth k .name ≡ lowered w → ⊥) → namedOf w ≡ lookUp [] (lowered w)

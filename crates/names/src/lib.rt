@@ -3,9 +3,9 @@ ghost use mathlib.Core.Path.{_≡_};
 ghost use mathlib.Core.List.{[]};
 ghost use Prim.Native.Nat.{_+_, _-_, _≤_, _<_};
 ghost use lib.ListN.{length, getD};
-ghost use Rattle.stream.specs.Words.{lowered};
+ghost use Rattle.stream.specs.Words.{same, lowered};
 ghost use Rattle.names.specs.Look.{lookUp, namedOf};
-ghost use Rattle.names.specs.Search.{order, spelling, Begins, Searching};
+ghost use Rattle.names.specs.Search.{spelling, Begins, Searching};
 
 pub struct Rgb {
     pub red: u8,
@@ -20,48 +20,16 @@ pub enum Named {
     Unknown,
 }
 
-enum Order {
-    Before,
-    Same,
-    After,
-}
-
-// How a name stands to a word, whose letters count as lower case.
-fn compare(name: &[u8], word: &[u8]) -> Order
-    ensures { λ r. ⌜ r ≡ order (now (name .entry)) (lowered (now (word .entry))) ⌝ }
-{
-    let mut k: usize = 0;
-    while k < name.len() {
-        if word.len() <= k {
-            return Order::After;
-        }
-        let b = stream::to_ascii_lowercase(word[k]);
-        let n = name[k];
-        if n < b {
-            return Order::Before;
-        }
-        if b < n {
-            return Order::After;
-        }
-        k += 1;
-    }
-    if k < word.len() {
-        Order::Before
-    } else {
-        Order::Same
-    }
-}
-
-// How name k of a band stands to a word.
-fn compare_entry(names: &[u8], starts: &[u8], k: usize, word: &[u8]) -> Order
+// Whether a word, letter case ignored, is name k of a band.
+fn is_entry(names: &[u8], starts: &[u8], k: usize, word: &[u8]) -> bool
     requires { ⌜ k + 1 < length (now starts) ⌝ }
     requires { ⌜ getD (now starts) k 0 ≤ getD (now starts) (k + 1) 0 ⌝ }
     requires { ⌜ getD (now starts) (k + 1) 0 ≤ length (now names) ⌝ }
-    ensures { λ r. ⌜ r ≡ order (spelling (now (names .entry)) (now (starts .entry)) k) (lowered (now (word .entry))) ⌝ }
+    ensures { λ r. ⌜ r ≡ same (lowered (now (word .entry))) (spelling (now (names .entry)) (now (starts .entry)) k) ⌝ }
 {
     let a = starts[k] as usize;
     let e = starts[k + 1] as usize;
-    compare(&names[a..e], word)
+    stream::equals_lowered(word, &names[a..e])
 }
 
 // What a word is that is the name of no entry.
@@ -75,31 +43,24 @@ fn unlisted(word: &[u8]) -> Named
     }
 }
 
-// The binary search in a band: its names in rising order, where each starts and the last ends, and its colours.
+// The walk through a band: its names, where each starts and the last ends, and its colours. A name of
+// another length than the word's is passed by one comparison, so that a binary search is no faster.
 fn search_band(names: &[u8], starts: &[u8], channels: &[u8], word: &[u8]) -> Named
     requires { ⌜ Searching (now names) (now starts) (now channels) (lowered (now word)) 0 (length (now starts) - 1) ⌝ }
     ensures { λ r. ⌜ r ≡ namedOf (now (word .entry)) ⌝ }
 {
-    let mut lo: usize = 0;
-    let mut hi = starts.len() - 1;
-    while lo < hi {
-        let mid = lo + (hi - lo) / 2;
-        match compare_entry(names, starts, mid, word) {
-            Order::Before => {
-                lo = mid + 1;
-            }
-            Order::Same => {
-                let i = mid * 3;
-                return Named::Keyword(Rgb {
-                    red: channels[i],
-                    green: channels[i + 1],
-                    blue: channels[i + 2],
-                });
-            }
-            Order::After => {
-                hi = mid;
-            }
+    let count = starts.len() - 1;
+    let mut k: usize = 0;
+    while k < count {
+        if is_entry(names, starts, k, word) {
+            let i = k * 3;
+            return Named::Keyword(Rgb {
+                red: channels[i],
+                green: channels[i + 1],
+                blue: channels[i + 2],
+            });
         }
+        k += 1;
     }
     unlisted(word)
 }

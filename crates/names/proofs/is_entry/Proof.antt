@@ -1,10 +1,10 @@
 use Rattle.stream.specs.Words.{part}
 use borrow.Author.Needs.{needs}
-use Rattle.names.proofs.compare_entry.Statement.{statement}
-use Rattle.names.proofs.compare_entry.Tie as tie
+use Rattle.names.proofs.is_entry.Statement.{statement}
+use Rattle.names.proofs.is_entry.Tie as tie
 
-pub compare-entry-spec : {M : Type 1} → statement M
-compare-entry-spec =
+pub is-entry-spec : {M : Type 1} → statement M
+is-entry-spec =
     tie.close
     (tie.spec
     (λ c. search needs)
