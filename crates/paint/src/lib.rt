@@ -2,6 +2,7 @@
 ghost use mathlib.Core.Path.{_≡_};
 ghost use Prim.Native.Nat.{_≤_};
 ghost use lib.ListN.{length};
+ghost use Rattle.stream.specs.Blanks.{trimPart};
 ghost use Rattle.paint.specs.Moves.{linkStart, movePaint};
 ghost use Rattle.stream.specs.Moves.{movePart};
 ghost use Rattle.paint.specs.Reading.{parseFallback, parseLinked, parsePlain, parsePaint};
@@ -165,6 +166,13 @@ fn move_paint(paint: Paint, by: Place) -> Paint
     }
 }
 
+// Trims a text whose slice is taken anew: handed on whole it is copied by 16 bytes, which wait for the stores of its two halves.
+fn trim_anew(text: &[u8]) -> Part
+    ensures { λ r. ⌜ r ≡ trimPart (now (text .entry)) ⌝ }
+{
+    stream::trim(&text[0..])
+}
+
 // A paint as a whole text.
 pub fn from_str(text: &[u8]) -> PaintAnswer
     ensures { λ r. ⌜ r ≡ fromStr (now (text .entry)) ⌝ }
@@ -172,7 +180,7 @@ pub fn from_str(text: &[u8]) -> PaintAnswer
     match stream::admit_text(text) {
         Admission::Refused(refusal) => PaintAnswer::Refused(refusal),
         Admission::Admitted => {
-            let part = stream::trim(text);
+            let part = trim_anew(text);
             let start = part.start;
             let a = start.0;
             let len = part.len;
