@@ -1,11 +1,7 @@
 // Colours: hex digits, `rgb` and `hsl` with their brackets, and names.
 ghost use mathlib.Core.Path.{_≡_};
-ghost use mathlib.Core.Bool.{true, cond};
 ghost use Prim.Native.Nat.{_+_, _≤_};
-ghost use lib.Dec.{eqb};
 ghost use lib.ListN.{length};
-ghost use Rattle.stream.specs.Bytes.{isHexDigit};
-ghost use Rattle.stream.specs.Scan.{scan};
 ghost use Rattle.color.specs.Hex.{fromHex, shortHex, hexPair, shortColor, longColor, parseHex};
 ghost use Rattle.color.specs.Hsl.{hueToRgb, hslToRgb, hslColor};
 ghost use Rattle.color.specs.Color.{afterNumber, closeBracket, parseAlpha, rgbMarked, rgbPlain, rgbRest, parseRgb, hslRest, parseHsl, isRgb, isHsl, namedColor, parseWord, parseColor, parseColorText};
@@ -83,7 +79,7 @@ pub fn parse_color(text: &[u8], at: Place) -> ColorRead
     parse_word(text, start)
 }
 
-// The colour whose hex digits start at a place, the one after the `#`. Each colour is made by one call, so that it is compiled in place.
+// The colour whose hex digits start at a place, the one after the `#`.
 fn parse_hex(text: &[u8], at: Place) -> ColorRead
     requires { ⌜ at .0 ≤ length (now text) ⌝ }
     ensures { λ r. ⌜ r ≡ parseHex (now (text .entry)) (at .0) ⌝ }
@@ -91,16 +87,13 @@ fn parse_hex(text: &[u8], at: Place) -> ColorRead
     let from = at.0;
     let end = stream::skip_hex_digits(text, at);
     let to = end.0;
-    let n = to - from;
-    if (n == 6) | (n == 8) {
-        let alpha = long_alpha(text, from, n);
-        return ColorRead::Value(long_color(text, from, alpha), end);
+    match to - from {
+        6 => ColorRead::Value(long_color(text, from, 255), end),
+        8 => ColorRead::Value(long_color(text, from, hex_pair(text, from + 6)), end),
+        3 => ColorRead::Value(short_color(text, from, 255), end),
+        4 => ColorRead::Value(short_color(text, from, short_hex(text, from + 3)), end),
+        _ => ColorRead::Refused(stream::invalid_value(end)),
     }
-    if (n == 3) | (n == 4) {
-        let alpha = short_alpha(text, from, n);
-        return ColorRead::Value(short_color(text, from, alpha), end);
-    }
-    ColorRead::Refused(stream::invalid_value(end))
 }
 
 // What a word begins: `rgb(`, `hsl(`, or a name alone.
@@ -317,19 +310,21 @@ fn hsl_rest(text: &[u8], at: Place, hue: f64) -> ColorRead
     }
 }
 
-// The value of a hex digit. The low four bits of `A` and of `a` are 1, and no branch is compiled.
+// The value of a hex digit, 0 for another byte.
 fn from_hex(c: u8) -> u8
-    requires { ⌜ true ≡ isHexDigit c ⌝ }
     ensures { λ r. ⌜ r ≡ fromHex c ⌝ }
     ensures { λ r. ⌜ r ≤ 15 ⌝ }
 {
-    let d = c % 16;
-    if c < 64 { d } else { d + 9 }
+    match c {
+        b'0'..=b'9' => c - b'0',
+        b'a'..=b'f' => c - b'a' + 10,
+        b'A'..=b'F' => c - b'A' + 10,
+        _ => 0,
+    }
 }
 
 // A channel of one digit, doubled.
 fn short_hex(text: &[u8], at: usize) -> u8
-    requires { ⌜ at + 1 ≤ scan isHexDigit (now text) at ⌝ }
     ensures { λ r. ⌜ r ≡ shortHex (now (text .entry)) at ⌝ }
 {
     let h = from_hex(stream::byte_at(text, at));
@@ -338,14 +333,14 @@ fn short_hex(text: &[u8], at: usize) -> u8
 
 // A channel of two digits.
 fn hex_pair(text: &[u8], at: usize) -> u8
-    requires { ⌜ at + 2 ≤ scan isHexDigit (now text) at ⌝ }
+    requires { ⌜ at ≤ length (now text) ⌝ }
     ensures { λ r. ⌜ r ≡ hexPair (now (text .entry)) at ⌝ }
 {
     from_hex(stream::byte_at(text, at)) * 16 + from_hex(stream::byte_at(text, at + 1))
 }
 
 fn short_color(text: &[u8], at: usize, alpha: u8) -> Color
-    requires { ⌜ at + 3 ≤ scan isHexDigit (now text) at ⌝ }
+    requires { ⌜ at ≤ length (now text) ⌝ }
     ensures { λ r. ⌜ r ≡ shortColor (now (text .entry)) at alpha ⌝ }
 {
     Color {
@@ -357,7 +352,7 @@ fn short_color(text: &[u8], at: usize, alpha: u8) -> Color
 }
 
 fn long_color(text: &[u8], at: usize, alpha: u8) -> Color
-    requires { ⌜ at + 6 ≤ scan isHexDigit (now text) at ⌝ }
+    requires { ⌜ at + 4 ≤ length (now text) ⌝ }
     ensures { λ r. ⌜ r ≡ longColor (now (text .entry)) at alpha ⌝ }
 {
     Color {
@@ -366,22 +361,6 @@ fn long_color(text: &[u8], at: usize, alpha: u8) -> Color
         blue: hex_pair(text, at + 4),
         alpha,
     }
-}
-
-// The alpha of six or of eight digits.
-fn long_alpha(text: &[u8], at: usize, n: usize) -> u8
-    requires { ⌜ at + n ≤ scan isHexDigit (now text) at ⌝ }
-    ensures { λ r. ⌜ r ≡ cond (eqb n 8) (hexPair (now (text .entry)) (at + 6)) 255 ⌝ }
-{
-    if n == 8 { hex_pair(text, at + 6) } else { 255 }
-}
-
-// The alpha of three or of four digits.
-fn short_alpha(text: &[u8], at: usize, n: usize) -> u8
-    requires { ⌜ at + n ≤ scan isHexDigit (now text) at ⌝ }
-    ensures { λ r. ⌜ r ≡ cond (eqb n 4) (shortHex (now (text .entry)) (at + 3)) 255 ⌝ }
-{
-    if n == 4 { short_hex(text, at + 3) } else { 255 }
 }
 
 // Hue, saturation and lightness as they were read, rounded to `f32`s.

@@ -60,36 +60,38 @@ struct Scale {
 // 2^53, which M stays below.
 const LIMIT: u64 = 9_007_199_254_740_992;
 
-// The powers of ten that an f64 holds exactly. A `match` becomes a table of the program; an array would be built anew at each call.
+// The powers of ten that an f64 holds exactly.
+const POWERS: [f64; 23] = [
+    1.0,
+    1e1,
+    1e2,
+    1e3,
+    1e4,
+    1e5,
+    1e6,
+    1e7,
+    1e8,
+    1e9,
+    1e10,
+    1e11,
+    1e12,
+    1e13,
+    1e14,
+    1e15,
+    1e16,
+    1e17,
+    1e18,
+    1e19,
+    1e20,
+    1e21,
+    1e22,
+];
+
 fn power(k: usize) -> f64
     requires { ⌜ k < 23 ⌝ }
     ensures { λ r. ⌜ r ≡ powerOf k ⌝ }
 {
-    match k {
-        1 => 1e1,
-        2 => 1e2,
-        3 => 1e3,
-        4 => 1e4,
-        5 => 1e5,
-        6 => 1e6,
-        7 => 1e7,
-        8 => 1e8,
-        9 => 1e9,
-        10 => 1e10,
-        11 => 1e11,
-        12 => 1e12,
-        13 => 1e13,
-        14 => 1e14,
-        15 => 1e15,
-        16 => 1e16,
-        17 => 1e17,
-        18 => 1e18,
-        19 => 1e19,
-        20 => 1e20,
-        21 => 1e21,
-        22 => 1e22,
-        _ => 1.0,
-    }
+    POWERS[k]
 }
 
 // One digit more; at 2^53 the value is held, so that no run of digits overflows.

@@ -1,4 +1,5 @@
-use Rattle.color.proofs.Digits.{value-above, value-below, value-le}
+use native.Mathlib.Omega.{arith}
+use Rattle.color.proofs.Digits.{value-capital, value-numeral, value-small, valued}
 use borrow.Author.Needs.{needs}
 use Rattle.color.proofs.from_hex.Statement.{statement}
 use Rattle.color.proofs.from_hex.Tie as tie
@@ -8,5 +9,11 @@ from-hex-spec =
     tie.close
     (tie.spec
     (λ c. search needs)
-    (λ c. search (value-below, value-le, needs))
-    (λ c. search (value-above, value-le, needs)))
+    (λ c. search needs)
+    (λ c. (value-numeral _ (omega arith) (omega arith), omega arith))
+    (λ c. (value-capital _ (omega arith) (omega arith), omega arith))
+    (λ c. (value-small _ (omega arith) (omega arith), omega arith))
+    (λ c. search (valued, needs))
+    (λ c. search (valued, needs))
+    (λ c. search (valued, needs))
+    (λ c. search (valued, needs)))

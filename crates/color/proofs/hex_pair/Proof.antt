@@ -1,6 +1,4 @@
-use native.Mathlib.Omega.{arith}
 use Rattle.color.specs.Hex.{hexPair}
-use Rattle.color.proofs.Digits.{rows, row-inside}
 use borrow.Author.Needs.{needs}
 use Rattle.color.proofs.hex_pair.Statement.{statement}
 use Rattle.color.proofs.hex_pair.Tie as tie
@@ -10,10 +8,10 @@ hex-pair-spec =
     tie.close
     (tie.spec
     (λ c κs. search needs)
-    (λ c κs. search (rows, needs))
-    (λ c. search needs)
-    (λ c. omega (arith, row-inside _ _ _ (c .before .before .before .pre) (omega arith)))
     (λ c κs. search needs)
-    (λ c κs. search (rows, needs))
+    (λ c. search needs)
+    (λ c. search needs)
+    (λ c κs. search needs)
+    (λ c κs. search needs)
     (λ c. search needs)
     (λ c. unfold hexPair in cc))

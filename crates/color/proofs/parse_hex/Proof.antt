@@ -1,5 +1,8 @@
+use Rattle.stream.proofs.Flows.{flow}
 use Rattle.stream.proofs.Scans.{from-scan}
-use Rattle.color.proofs.Digits.{row-whole, row-of, hexes}
+use Rattle.color.proofs.Digits.{run-holds}
+use Rattle.color.proofs.Steps.{coloured}
+use Rattle.color.specs.Hex.{parseHex}
 use borrow.Author.Needs.{needs}
 use Rattle.color.proofs.parse_hex.Statement.{statement}
 use Rattle.color.proofs.parse_hex.Tie as tie
@@ -10,11 +13,17 @@ parse-hex-spec =
     (tie.spec
     (λ c κs. search needs)
     (λ c. search (from-scan, needs))
-    (λ c κs. search (row-whole, needs))
-    (λ c κs. search (row-of, needs))
-    (λ c. search (hexes, needs))
-    (λ c κs. search (row-whole, needs))
-    (λ c κs. search (row-of, needs))
-    (λ c. search (hexes, needs))
+    (λ c κs. search (run-holds, needs))
+    (λ c. search (run-holds, needs))
+    (λ c κs. search (run-holds, needs))
+    (λ c κs. search (run-holds, needs))
     (λ c κs. search needs)
-    (λ c. search (hexes, needs)))
+    (λ c. search needs)
+    (λ c κs. search needs)
+    (λ c κs. search needs)
+    (λ c κs. search needs)
+    (λ c. unfold parseHex in search (flow, coloured, needs) depth 20)
+    (λ c. unfold parseHex in search (flow, coloured, needs) depth 20)
+    (λ c. unfold parseHex in search (flow, coloured, needs) depth 20)
+    (λ c. unfold parseHex in search (flow, coloured, needs) depth 20)
+    (λ c. unfold parseHex in search (flow, coloured, needs) depth 20))

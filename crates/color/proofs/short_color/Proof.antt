@@ -1,6 +1,4 @@
-use native.Mathlib.Omega.{arith}
 use Rattle.color.specs.Hex.{shortColor}
-use Rattle.color.proofs.Digits.{rows, row-inside}
 use borrow.Author.Needs.{needs}
 use Rattle.color.proofs.short_color.Statement.{statement}
 use Rattle.color.proofs.short_color.Tie as tie
@@ -10,8 +8,8 @@ short-color-spec =
     tie.close
     (tie.spec
     (λ c κs. search needs)
-    (λ c. omega (arith, row-inside _ _ _ (c .before .before .pre) (omega arith)))
-    (λ c κs. search (rows, needs))
-    (λ c. omega (arith, row-inside _ _ _ (c .before .before .before .pre) (omega arith)))
-    (λ c κs. search (rows, needs))
+    (λ c. search needs)
+    (λ c κs. search needs)
+    (λ c. search needs)
+    (λ c κs. search needs)
     (λ c. unfold shortColor in cc))

@@ -1,5 +1,4 @@
 use Rattle.color.specs.Hex.{shortHex}
-use Rattle.color.proofs.Digits.{rows}
 use borrow.Author.Needs.{needs}
 use Rattle.color.proofs.short_hex.Statement.{statement}
 use Rattle.color.proofs.short_hex.Tie as tie
@@ -9,7 +8,7 @@ short-hex-spec =
     tie.close
     (tie.spec
     (λ c κs. search needs)
-    (λ c κs. search (rows, needs))
+    (λ c κs. search needs)
     (λ c. search needs)
     (λ c. search needs)
     (λ c. unfold shortHex in cc))
