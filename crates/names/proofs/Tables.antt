@@ -1,11 +1,11 @@
 -- What is proved of the standard's table, once, by tests that are computed at each entry.
-use Prim.Native.Nat.{ℕ, _<_}
-use mathlib.Core.Bool.{Bool, true, false, _&&_}
+use Prim.Native.Nat.{ℕ, _+_, _<_}
+use mathlib.Core.Bool.{Bool, true, false, _&&_, _||_}
 use mathlib.Core.List.{List, [], _∷_}
 use mathlib.Core.Path.{_≡_, refl, ap}
 use native.Mathlib.Omega.{arith}
 use borrow.Author.Tests.{eqb-true}
-use lib.Dec.{T, eqb}
+use lib.Dec.{T, eqb, ltb}
 use lib.ListN.{length, getD}
 use Rattle.stream.specs.Bytes.{isLower, within}
 use Rattle.stream.specs.Words.{same}
@@ -24,6 +24,18 @@ holds-true false t = absurd t
 pub table-count : length keywords ≡ 147
 unfolding keywords
 table-count = refl
+
+-- strictly before in the alphabet, byte by byte
+unfoldable pub before : List ℕ → List ℕ → Bool
+before [] [] = false
+before [] (y ∷ ys) = true
+before (x ∷ xs) [] = false
+before (x ∷ xs) (y ∷ ys) = ltb x y || (eqb x y && before xs ys)
+
+-- the names stand in strictly rising order
+pub table-rises : (k : ℕ) → k + 1 < 147 → T (before (nth k .name) (nth (k + 1) .name))
+unfolding keywords before
+table-rises k h = across (λ j. before (nth j .name) (nth (j + 1) .name)) 0 146 tt k (omega arith) (omega arith)
 
 pub three : (r g b x y z : ℕ) → T (eqb r x && (eqb g y && eqb b z)) → _≡_ {A = Rgb} (record { red = r; green = g; blue = b }) (record { red = x; green = y; blue = z })
 three r g b x y z h = go (eqb r x) (eqb g y) (eqb b z) (eqb-true r x) (eqb-true g y) (eqb-true b z) h
