@@ -1,7 +1,7 @@
 //! Both crates in one process on the same texts: `cargo bench` prints the tables of docs/SPEED.md.
 //!
-//! A round reads every text of a class once with each crate, the one that goes first changing from
-//! round to round. The ratio is taken within a round, and the median of the ratios is told: what
+//! A round reads every text of a class some times over with each crate, the one that goes first
+//! changing from round to round. The ratio is taken within a round, and the median of the ratios is told: what
 //! slows the machine down for a while slows both. Times are those of the fastest round.
 
 mod texts;
@@ -11,7 +11,7 @@ use std::time::Instant;
 
 use texts::Class;
 
-/// How often a class is read in one round, so that a round takes about a tenth of a millisecond.
+/// Nanoseconds that svgtypes gets in a round: a class is read as often as that takes, at least once.
 const ROUND_NS: f64 = 100_000.0;
 
 /// Rounds of each class; `HOMELUDAF_ROUNDS` says otherwise.

@@ -55,8 +55,9 @@ fn whole<'r>(call: Whole, text: &str, room: &'r mut Room<1>) -> &'r Record {
     // the call; the callee only reads it and keeps neither pointer (proved: the text is lent as
     // `&[u8]`). The answer is a record of ours and overlaps no text, since it is lent to us alone.
     // The callee fills all of it and nothing else (proved: it is lent as `&mut [u64; 24]`, and the
-    // contract gives every entry), so that it may be read after the call. The callee is safe and
-    // ends on every input (proved: its contract has no `requires`), and does not unwind.
+    // contract gives every entry), so that it may be read after the call. What lay there before may
+    // be anything: the contract asks nothing of it, and the answer does not depend on it. The callee
+    // is safe and ends on every input (proved: its contract has no `requires`), and does not unwind.
     unsafe {
         call(text.as_ptr(), text.len(), room.0.as_mut_ptr().cast());
         room.0[0].assume_init_ref()
@@ -107,25 +108,24 @@ calls! {
     paint => homeludaf_paint
 }
 
-/// The steps of a list of lengths from a place on, up to the first that is no value; as many as
-/// there is room for.
-#[inline]
-pub(crate) fn lengths<'r, const N: usize>(
-    text: &str,
-    place: usize,
-    room: &'r mut Room<N>,
-) -> &'r [Record] {
-    many(homeludaf_length_all, text, place, room)
+/// The steps of a list from a place on, up to the first that is no value; as many as there is
+/// room for.
+macro_rules! lists {
+    ($($name:ident => $call:ident),*) => {$(
+        #[inline]
+        pub(crate) fn $name<'r, const N: usize>(
+            text: &str,
+            place: usize,
+            room: &'r mut Room<N>,
+        ) -> &'r [Record] {
+            many($call, text, place, room)
+        }
+    )*};
 }
 
-/// The same of a list of filter values.
-#[inline]
-pub(crate) fn filters<'r, const N: usize>(
-    text: &str,
-    place: usize,
-    room: &'r mut Room<N>,
-) -> &'r [Record] {
-    many(homeludaf_filter_all, text, place, room)
+lists! {
+    lengths => homeludaf_length_all,
+    filters => homeludaf_filter_all
 }
 
 /// What was read before it was asked for: values, the first of them to be handed out next, and
