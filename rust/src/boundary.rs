@@ -4,7 +4,6 @@
 //! pointer and the length belong together; every sequence of bytes has an answer.
 
 use std::mem::MaybeUninit;
-use std::slice;
 
 use crate::record::{Record, ENTRIES};
 
@@ -39,18 +38,18 @@ type Whole = unsafe extern "C" fn(*const u8, usize, *mut u64);
 /// A function that reads steps of a list; only those declared above are ever handed over.
 type Many = unsafe extern "C" fn(*const u8, usize, usize, *mut u64, usize, *mut u64);
 
-/// Room for records, which a call fills: neither set to zero before nor copied after.
-pub(crate) struct Room<const N: usize>([MaybeUninit<Record>; N]);
+/// Room for a record, which a call fills: neither set to zero before nor copied after.
+pub(crate) struct Room(MaybeUninit<Record>);
 
-impl<const N: usize> Room<N> {
+impl Room {
     #[inline(always)]
     pub(crate) fn new() -> Self {
-        Room([const { MaybeUninit::uninit() }; N])
+        Room(MaybeUninit::uninit())
     }
 }
 
 #[inline(always)]
-fn whole<'r>(call: Whole, text: &str, room: &'r mut Room<1>) -> &'r Record {
+fn whole<'r>(call: Whole, text: &str, room: &'r mut Room) -> &'r Record {
     // SAFETY: pointer and length are those of one `&str`, which is never null and lives through
     // the call; the callee only reads it and keeps neither pointer (proved: the text is lent as
     // `&[u8]`). The answer is a record of ours and overlaps no text, since it is lent to us alone.
@@ -60,40 +59,14 @@ fn whole<'r>(call: Whole, text: &str, room: &'r mut Room<1>) -> &'r Record {
     // is safe and ends on every input (proved: its contract has no `requires`), and does not unwind.
     unsafe {
         call(text.as_ptr(), text.len(), room.0.as_mut_ptr().cast());
-        room.0[0].assume_init_ref()
-    }
-}
-
-#[inline(always)]
-fn many<'r, const N: usize>(
-    call: Many,
-    text: &str,
-    place: usize,
-    room: &'r mut Room<N>,
-) -> &'r [Record] {
-    let answers = room.0.as_mut_ptr();
-    let mut told = [0; 2];
-    // SAFETY: as in `whole`. The place is a number and no pointer: one past the end, or inside a
-    // character, is refused (proved). The room is lent as a slice of all its numbers; the callee
-    // fills whole records from its start on and tells their count (proved), which never is more
-    // than there is room for, so that as many records may be read after the call.
-    unsafe {
-        call(
-            text.as_ptr(),
-            text.len(),
-            place,
-            answers.cast(),
-            N * ENTRIES,
-            told.as_mut_ptr(),
-        );
-        slice::from_raw_parts(answers.cast(), N.min(told[0] as usize))
+        room.0.assume_init_ref()
     }
 }
 
 macro_rules! calls {
     ($($name:ident => $call:ident),*) => {$(
         #[inline]
-        pub(crate) fn $name<'r>(text: &str, room: &'r mut Room<1>) -> &'r Record {
+        pub(crate) fn $name<'r>(text: &str, room: &'r mut Room) -> &'r Record {
             whole($call, text, room)
         }
     )*};
@@ -108,89 +81,76 @@ calls! {
     paint => homeludaf_paint
 }
 
-/// The steps of a list from a place on, up to the first that is no value; as many as there is
-/// room for.
-macro_rules! lists {
-    ($($name:ident => $call:ident),*) => {$(
-        #[inline]
-        pub(crate) fn $name<'r, const N: usize>(
-            text: &str,
-            place: usize,
-            room: &'r mut Room<N>,
-        ) -> &'r [Record] {
-            many($call, text, place, room)
-        }
-    )*};
-}
+/// How many steps of a list are read at once.
+const KEPT: usize = 16;
 
-lists! {
-    lengths => homeludaf_length_all,
-    filters => homeludaf_filter_all
-}
-
-/// What was read before it was asked for: values, the first of them to be handed out next, and
-/// the refusal that follows them, if one does.
+/// Steps of a list that were read before they were asked for, as records; the first of them is
+/// handed out next.
 ///
 /// The order of the fields is given, so that what a new one sets to zero lies together: else the
 /// compiler sets all that lies between to zero, too.
 #[derive(Clone, Copy)]
 #[repr(C)]
-pub(crate) struct Ahead<T: Copy, const N: usize> {
+pub(crate) struct Ahead {
     next: u8,
     end: u8,
-    refused: bool,
-    values: [MaybeUninit<T>; N],
-    refusal: MaybeUninit<Record>,
+    records: [MaybeUninit<Record>; KEPT],
 }
 
-impl<T: Copy, const N: usize> Ahead<T, N> {
+impl Ahead {
     #[inline(always)]
     pub(crate) fn new() -> Self {
         Ahead {
             next: 0,
             end: 0,
-            refused: false,
-            values: [MaybeUninit::uninit(); N],
-            refusal: MaybeUninit::uninit(),
+            records: [const { MaybeUninit::uninit() }; KEPT],
         }
     }
 
-    /// Keeps the first `N` of some values, in the place of those that were kept.
-    #[inline]
-    pub(crate) fn keep(&mut self, values: impl Iterator<Item = T>) {
-        self.next = 0;
-        self.end = 0;
-        for (slot, value) in self.values.iter_mut().zip(values) {
-            slot.write(value);
-            self.end += 1;
-        }
+    #[inline(always)]
+    pub(crate) fn is_empty(&self) -> bool {
+        self.next == self.end
     }
 
-    /// The next of the values, where it lies: who wants it copies it once, to where it is wanted.
-    #[inline]
-    pub(crate) fn take(&mut self) -> Option<&T> {
-        if self.next == self.end {
+    /// The next of the records, where it lies.
+    #[inline(always)]
+    pub(crate) fn take(&mut self) -> Option<&Record> {
+        if self.is_empty() {
             return None;
         }
-        let value = &self.values[usize::from(self.next)];
+        let record = &self.records[usize::from(self.next)];
         self.next += 1;
-        // SAFETY: `keep` writes the slots below `end`, and nothing else sets `end` or `next`.
-        Some(unsafe { value.assume_init_ref() })
+        // SAFETY: the records below `end` were filled by `fill`, which alone sets `end`.
+        Some(unsafe { record.assume_init_ref() })
     }
 
-    #[inline]
-    pub(crate) fn keep_refusal(&mut self, refusal: &Record) {
-        self.refusal.write(*refusal);
-        self.refused = true;
-    }
-
-    #[inline]
-    pub(crate) fn take_refusal(&mut self) -> Option<Record> {
-        if !self.refused {
-            return None;
+    /// Reads the steps from a place on, up to the first that is no value; as many as there is room for.
+    #[inline(always)]
+    fn fill(&mut self, call: Many, text: &str, place: usize) {
+        let mut told = [0; 2];
+        // SAFETY: as in `whole`. The place is a number and no pointer: one past the end, or inside a
+        // character, is refused (proved). The room is lent as a slice of all its numbers; the callee
+        // fills whole records from its start on and tells their count (proved), which never is more
+        // than there is room for, so that as many records may be read after the call.
+        unsafe {
+            call(
+                text.as_ptr(),
+                text.len(),
+                place,
+                self.records.as_mut_ptr().cast(),
+                KEPT * ENTRIES,
+                told.as_mut_ptr(),
+            );
         }
-        self.refused = false;
-        // SAFETY: `keep_refusal`, which alone sets `refused`, has written it.
-        Some(unsafe { self.refusal.assume_init() })
+        self.next = 0;
+        self.end = told[0].min(KEPT as u64) as u8;
+    }
+
+    pub(crate) fn lengths(&mut self, text: &str, place: usize) {
+        self.fill(homeludaf_length_all, text, place);
+    }
+
+    pub(crate) fn filters(&mut self, text: &str, place: usize) {
+        self.fill(homeludaf_filter_all, text, place);
     }
 }

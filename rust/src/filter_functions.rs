@@ -2,7 +2,7 @@
 
 use std::fmt;
 
-use crate::boundary;
+use crate::boundary::Ahead;
 use crate::error::Refusal;
 use crate::list::Walk;
 use crate::record::{foreign, Record, RESULT};
@@ -59,6 +59,7 @@ const SHADOW_COLORED: usize = RESULT + 7;
 const SHADOW_COLOR: usize = RESULT + 8;
 
 impl<'a> FilterValue<'a> {
+    #[inline]
     fn of(record: &Record, text: &'a str) -> Self {
         match record.kind(KIND) {
             1 => FilterValue::Blur(record.length(HELD)),
@@ -188,7 +189,7 @@ impl std::error::Error for FilterValueListParserError {
 ///
 /// [`<filter-value-list>`]: https://www.w3.org/TR/filter-effects-1/#typedef-filter-value-list
 #[derive(Clone, Copy, PartialEq, Eq, Debug)]
-pub struct FilterValueListParser<'a>(Walk<'a, FilterValue<'a>, 16>);
+pub struct FilterValueListParser<'a>(Walk<'a>);
 
 impl<'a> From<&'a str> for FilterValueListParser<'a> {
     #[inline]
@@ -202,18 +203,8 @@ impl<'a> Iterator for FilterValueListParser<'a> {
 
     #[inline]
     fn next(&mut self) -> Option<Self::Item> {
-        if let Some(value) = self.0.take() {
-            return Some(Ok(*value));
-        }
-        self.read()
-    }
-}
-
-impl<'a> FilterValueListParser<'a> {
-    /// Reads further values, and hands out the first.
-    fn read(&mut self) -> Option<Result<FilterValue<'a>, FilterValueListParserError>> {
-        self.0.read(
-            boundary::filters,
+        self.0.next(
+            Ahead::filters,
             FilterValue::of,
             FilterValueListParserError::of,
         )

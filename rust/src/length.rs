@@ -1,6 +1,6 @@
 //! Lengths and lists of lengths.
 
-use crate::boundary::{self, Room};
+use crate::boundary::{self, Ahead, Room};
 use crate::list::Walk;
 use crate::record::{Record, RESULT};
 use crate::Error;
@@ -89,7 +89,7 @@ impl std::str::FromStr for Length {
 ///
 /// [`<list-of-length>`]: https://www.w3.org/TR/SVG2/types.html#InterfaceSVGLengthList
 #[derive(Clone, Copy, PartialEq, Eq, Debug)]
-pub struct LengthListParser<'a>(Walk<'a, Length, 32>);
+pub struct LengthListParser<'a>(Walk<'a>);
 
 impl<'a> From<&'a str> for LengthListParser<'a> {
     #[inline]
@@ -103,17 +103,7 @@ impl Iterator for LengthListParser<'_> {
 
     #[inline]
     fn next(&mut self) -> Option<Self::Item> {
-        if let Some(length) = self.0.take() {
-            return Some(Ok(*length));
-        }
-        self.read()
-    }
-}
-
-impl LengthListParser<'_> {
-    /// Reads further lengths, and hands out the first.
-    fn read(&mut self) -> Option<Result<Length, Error>> {
         let value = |record: &Record, _: &str| record.length(RESULT);
-        self.0.read(boundary::lengths, value, Error::of)
+        self.0.next(Ahead::lengths, value, Error::of)
     }
 }

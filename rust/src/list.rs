@@ -2,21 +2,22 @@
 
 use std::fmt;
 
-use crate::boundary::{Ahead, Room};
+use crate::boundary::Ahead;
 use crate::record::Record;
 
 /// A list's text, the byte place up to which it was handed out, and what was read ahead of it.
 ///
-/// Each call into the archive tests the whole text, so a call reads as many values as are kept.
+/// Each call into the archive tests the whole text, so a call reads as many steps as are kept. They
+/// are kept as the records that came, and become values when they are asked for.
 #[derive(Clone, Copy)]
 #[repr(C)]
-pub(crate) struct Walk<'a, T: Copy, const N: usize> {
+pub(crate) struct Walk<'a> {
     text: &'a str,
     place: usize,
-    ahead: Ahead<(T, u16), N>,
+    ahead: Ahead,
 }
 
-impl<'a, T: Copy, const N: usize> Walk<'a, T, N> {
+impl<'a> Walk<'a> {
     #[inline]
     pub(crate) fn new(text: &'a str) -> Self {
         Walk {
@@ -26,71 +27,46 @@ impl<'a, T: Copy, const N: usize> Walk<'a, T, N> {
         }
     }
 
-    /// The next value, if it has been read already.
-    #[inline]
-    pub(crate) fn take(&mut self) -> Option<&T> {
-        let (value, place) = self.ahead.take()?;
-        self.place = usize::from(*place);
-        Some(value)
-    }
-
-    /// What follows the values that have been read: further ones, which `read` gives as records,
-    /// or a refusal, or nothing.
+    /// The next value or refusal. Nothing follows a refusal, nor the word `none`.
     ///
-    /// A list place fits into 16 bits: no text of more than 4,096 bytes has a value.
-    #[inline]
-    pub(crate) fn read<E>(
+    /// The list's end is set by hand, because a refused text (one that is too long) gives the place
+    /// back as it came.
+    #[inline(always)]
+    pub(crate) fn next<T, E>(
         &mut self,
-        read: impl for<'r> Fn(&'a str, usize, &'r mut Room<N>) -> &'r [Record],
+        read: impl Fn(&mut Ahead, &str, usize),
         value: impl Fn(&Record, &'a str) -> T,
         error: impl Fn(&Record, &str) -> E,
     ) -> Option<Result<T, E>> {
-        if let Some(record) = self.ahead.take_refusal() {
-            self.end();
-            return Some(Err(error(&record, self.text)));
-        }
-        if self.place >= self.text.len() {
-            return None;
-        }
-        let mut room = Room::new();
-        let records = read(self.text, self.place, &mut room);
-        let values = records.iter().take_while(|record| record.is_value());
-        self.ahead
-            .keep(values.map(|record| (value(record, self.text), record.list_place() as u16)));
-        let last = &records[records.len() - 1];
-        if records[0].is_value() {
-            if last.is_refused() {
-                self.ahead.keep_refusal(last);
+        if self.ahead.is_empty() {
+            if self.place >= self.text.len() {
+                return None;
             }
-            return self.take().map(|value| Ok(*value));
+            read(&mut self.ahead, self.text, self.place);
         }
-        self.end();
-        if last.is_refused() {
-            return Some(Err(error(last, self.text)));
+        let record = self.ahead.take()?;
+        if record.is_value() {
+            self.place = record.list_place();
+            return Some(Ok(value(record, self.text)));
+        }
+        self.place = self.text.len();
+        if record.is_refused() {
+            return Some(Err(error(record, self.text)));
         }
         None
-    }
-
-    /// Ends the list: nothing follows a refusal, nor the word `none`.
-    ///
-    /// The place is set by hand, because a refused text (one that is too long) gives the place back
-    /// as it came.
-    #[inline]
-    fn end(&mut self) {
-        self.place = self.text.len();
     }
 }
 
 /// Two walks are equal where their texts are and as much of them was handed out.
-impl<T: Copy, const N: usize> PartialEq for Walk<'_, T, N> {
+impl PartialEq for Walk<'_> {
     fn eq(&self, other: &Self) -> bool {
         (self.text, self.place) == (other.text, other.place)
     }
 }
 
-impl<T: Copy, const N: usize> Eq for Walk<'_, T, N> {}
+impl Eq for Walk<'_> {}
 
-impl<T: Copy, const N: usize> fmt::Debug for Walk<'_, T, N> {
+impl fmt::Debug for Walk<'_> {
     fn fmt(&self, f: &mut fmt::Formatter<'_>) -> fmt::Result {
         f.debug_struct("Walk")
             .field("text", &self.text)
