@@ -180,7 +180,7 @@ fn parse_filter_angle(text: &[u8], name: Place, at: Place) -> AngleRead
     ensures { λ r. ⌜ r ≡ parseFilterAngle (now (text .entry)) (name .0) (at .0) ⌝ }
 {
     let start = stream::skip_spaces(text, at);
-    match numbers::parse_number(text, start) {
+    match numbers::number_from(text, start) {
         NumberRead::Refused(e) => AngleRead::Refused(e),
         NumberRead::Value(n, p) => {
             let number = n.value;

@@ -7,23 +7,26 @@ use mathlib.Core.Logic.{⊎-elim}
 use lib.Dec.{T, leb, ltb, eqb, le→leb}
 use lib.IntN.{pos}
 use lib.Ieee.{Float, binary64, ofInt, mul, div, neg, inFloat}
-use lib.ListN.{length, getD, drop, List·getD-eq-default}
+use lib.ListN.{length, getD, drop, List·getD-eq-default, drop-of-length-le}
+use lib.Seq.{drop-cons}
 use native.Mathlib.Omega.{arith}
-use borrow.Author.Tests.{ne-eqb, le-leb, lt-leb, le-ltb, lt-ltb, ltb-true}
-use Rattle.stream.specs.Bytes.{isDigit, isSign}
+use borrow.Author.Tests.{ne-eqb, le-leb, lt-leb, le-ltb, lt-ltb, ltb-true, leb-true}
+use Rattle.stream.specs.Bytes.{isDigit, isSign, isSpace}
 use Rattle.stream.specs.Faults.{place}
-use Rattle.stream.specs.Scan.{scan}
+use Rattle.stream.specs.Flow.{bind}
+use Rattle.stream.specs.Scan.{run, scan}
 use Rattle.stream.specs.declared.Fault.{Fault}
 use Rattle.stream.specs.declared.Place.{Place}
 use Rattle.stream.specs.declared.Trouble.the-variants as T
 use Rattle.stream.proofs.Octets.{and-first, and-second}
-use Rattle.stream.proofs.Ranges.{lt-or-le}
+use Rattle.stream.proofs.Ahead.{scan-again}
+use Rattle.stream.proofs.Ranges.{lt-or-le, either, within-ge}
 use Rattle.stream.proofs.Scans.{run-inside}
 use Rattle.numbers.proofs.Sums.{capped}
 use Rattle.numbers.specs.Digits.{value, cap}
-use Rattle.numbers.specs.Held.{heldMantissa, heldExponent, wholeNumber}
+use Rattle.numbers.specs.Held.{heldMantissa, heldExponent, wholeNumber, isDecimal, decimalNumber}
 use Rattle.numbers.specs.Moves.{thenNumber}
-use Rattle.numbers.specs.Number.{afterSign, mantissaAt, mantissaDot, exponentAt, exponentFrom, noExponent, scaleOf, valueOf, refusedAt, scaled, finished, numberFrom}
+use Rattle.numbers.specs.Number.{startsNumber, afterSign, mantissaAt, mantissaDot, exponentAt, exponentFrom, noExponent, scaleOf, valueOf, refusedAt, scaled, finished, numberFrom, parseNumber}
 use Rattle.numbers.specs.Powers.{powerOf}
 use Rattle.numbers.specs.declared.Exponent.{Exponent}
 use Rattle.numbers.specs.declared.Mantissa.{Mantissa}
@@ -211,20 +214,134 @@ neither : (a b : Bool) → not (a || b) ≡ true → (a ≡ false) × (b ≡ fal
 neither true b e = absurd (true≢false (sym e))
 neither false b e = (refl, not-true b e)
 
+pub whole-small : {n : ℕ} (t u : Bool) → (t && (u && ltb n cap)) ≡ true → n < cap
+whole-small {n} t u h = ltb-true n cap (and-second u (ltb n cap) (and-second t (u && ltb n cap) h))
+
 -- a run of digits that nothing follows is the number: t is what the test of the byte after it answered
 module _ (s : List ℕ) (start : ℕ) {b from last n x : ℕ} {t : Bool} (p : b ≡ getD s start 0) (q : from ≡ afterSign s start) (d : last ≡ scan isDigit s from) (v : n ≡ min cap (value 0 (drop from s))) (y : x ≡ getD s last 0) (w : t ≡ not (eqb x 46 || (eqb x 101 || eqb x 69))) (h : (t && (ltb from last && ltb n cap)) ≡ true) where
-  pub whole-small : n < cap
-  whole-small = ltb-true n cap (and-second (ltb from last) (ltb n cap) (and-second t (ltb from last && ltb n cap) h))
-
   pub whole-read : {r : NumberRead} → r ≡ wholeNumber (eqb b 45) n last → r ≡ numberFrom s start
   unfolding numberFrom mantissaAt mantissaDot exponentAt finished scaled scaleOf
   whole-read z =
       let after : (eqb x 46 ≡ false) × ((eqb x 101 || eqb x 69) ≡ false) = neither (eqb x 46) (eqb x 101 || eqb x 69) (sym w ∙ and-first t (ltb from last && ltb n cap) h) in
       let some : ltb from last ≡ true = and-first (ltb from last) (ltb n cap) (and-second t (ltb from last && ltb n cap) h) in
-      let same : value 0 (drop from s) ≡ n = omega (arith, whole-small, v) in
-      simp (← p, ← q, ← d, ← y, after .0, after .1, some, same, lt-ltb n cap whole-small) z
+      let small : n < cap = whole-small t (ltb from last) h in
+      let same : value 0 (drop from s) ≡ n = omega (arith, small, v) in
+      simp (← p, ← q, ← d, ← y, after .0, after .1, some, same, lt-ltb n cap small) z
 
 pub ruleset wholes = (whole-small, whole-read)
+
+-- what the test of a decimal tells: t is what it answered
+record Told (m : Mantissa) (x : ℕ) : Type 0 where
+  formed : m .ok ≡ true
+  dotted : m .dotted ≡ true
+  small : m .value < cap
+  short : m .fraction < 23
+  ended : (eqb x 101 || eqb x 69) ≡ false
+
+told : (m : Mantissa) (x : ℕ) {t : Bool} → t ≡ isDecimal m x → t ≡ true → Told m x
+told m x k h =
+    let all : isDecimal m x ≡ true = sym k ∙ h in
+    let form : (m .ok && m .dotted) ≡ true = and-first _ _ all in
+    let size : (ltb (m .value) cap && (leb (m .fraction) 22 && not (eqb x 101 || eqb x 69))) ≡ true = and-second (m .ok && m .dotted) _ all in
+    let rest : (leb (m .fraction) 22 && not (eqb x 101 || eqb x 69)) ≡ true = and-second (ltb (m .value) cap) _ size in
+    record {
+      formed = and-first (m .ok) (m .dotted) form;
+      dotted = and-second (m .ok) (m .dotted) form;
+      small = ltb-true (m .value) cap (and-first _ _ size);
+      short = omega (arith, leb-true (m .fraction) 22 (and-first _ _ rest));
+      ended = not-true (eqb x 101 || eqb x 69) (and-second (leb (m .fraction) 22) _ rest);
+    }
+
+-- a fraction that is well formed has a digit
+fraction-some : (s : List ℕ) (at : ℕ) → (mantissaAt s at) .ok ≡ true → (mantissaAt s at) .dotted ≡ true → 0 < (mantissaAt s at) .fraction
+unfolding mantissaAt mantissaDot
+fraction-some s at o d =
+    let dot = scan isDigit s at in
+    either (eqb (getD s dot 0) 46)
+    (λ e. let f : ltb (dot + 1) (scan isDigit s (dot + 1)) ≡ true = simp e at o in simp e (omega (arith, ltb-true (dot + 1) (scan isDigit s (dot + 1)) f)))
+    (λ e. absurd (true≢false (sym (simp e at d))))
+
+decimal-finished : (s : List ℕ) (minus : Bool) (m : Mantissa) (start : ℕ) → Told m (getD s (m .end) 0) → 0 < m .fraction
+    → decimalNumber minus m ≡ finished minus m (heldExponent (exponentAt s (m .end))) start
+unfolding finished scaled
+decimal-finished s minus m start d f =
+    let none : exponentAt s (m .end) ≡ noExponent (m .end) = unfold exponentAt in simp (d .ended) in
+    let by : m .fraction - 0 ≡ m .fraction = omega arith in
+    let near : leb (m .fraction) 22 ≡ true = le-leb (m .fraction) 22 (omega (arith, d .short)) in
+    simp (none, d .formed, d .dotted, lt-ltb (m .value) cap (d .small), ← scale-down false 0 (m .fraction) refl f, by, near)
+
+-- digits and a fraction that no exponent follows are the number
+module _ (m : Mantissa) (x : ℕ) {t : Bool} (k : t ≡ isDecimal m x) (h : t ≡ true) where
+  pub decimal-small : m .value < cap
+  decimal-small = told m x k h .small
+
+  pub decimal-short : m .fraction < 23
+  decimal-short = told m x k h .short
+
+  pub decimal-read : (s : List ℕ) (start : ℕ) {b from : ℕ} {r : NumberRead} → b ≡ getD s start 0 → from ≡ afterSign s start → m ≡ heldMantissa (mantissaAt s from) → x ≡ getD s (m .end) 0
+      → length s ≤ 4096 → r ≡ decimalNumber (eqb b 45) m → r ≡ numberFrom s start
+  decimal-read s start {b} {from} p q w y l z =
+      let d : Told m (getD s (m .end) 0) = rw (← y) (told m x k h) in
+      let f : 0 < m .fraction = rw w (fraction-some s from (rw w at (d .formed)) (rw w at (d .dotted))) in
+      number-from s start p q w refl l (z ∙ decimal-finished s (eqb b 45) m start d f)
+
+pub ruleset decimals = (decimal-small, decimal-short, decimal-read)
+
+-- where no space stands the number begins: t is what the test of its first byte answered
+module _ (s : List ℕ) (i : ℕ) (z : scan isSpace s i ≡ i) {r : NumberRead} where
+  pub rest-ended : length s ≤ i → r ≡ refusedAt T.TextEnded i i → r ≡ parseNumber s i
+  unfolding parseNumber bind
+  rest-ended h x = simp (z, le-leb (length s) i h) x
+
+  module _ (h : i < length s) {t : Bool} (q : t ≡ startsNumber (getD s i 0)) where
+    pub rest-wrong : not t ≡ true → r ≡ refusedAt T.WrongByte i i → r ≡ parseNumber s i
+    unfolding parseNumber bind
+    rest-wrong e x = simp (z, lt-leb (length s) i h, ← q, not-true t e) x
+
+    pub rest-begun : not t ≡ false → r ≡ numberFrom s i → r ≡ parseNumber s i
+    unfolding parseNumber bind
+    rest-begun e x = simp (z, lt-leb (length s) i h, ← q, not-false t e) x
+
+pub ruleset rests = (rest-ended, rest-wrong, rest-begun)
+
+-- where spaces have been skipped there is none
+pub skipped-still : (s : List ℕ) (at : ℕ) {i : ℕ} → i ≡ scan isSpace s at → scan isSpace s i ≡ i
+skipped-still s at q = rw q (scan-again isSpace s at)
+
+pub skipped-read : (s : List ℕ) (at : ℕ) {i : ℕ} {r : NumberRead} → i ≡ scan isSpace s at → r ≡ parseNumber s i → r ≡ parseNumber s at
+unfolding parseNumber bind
+skipped-read s at q x = simp (← q) (simp (skipped-still s at q) at x)
+
+-- a run of digits that is not empty begins with one
+run-digit : (s : List ℕ) (i : ℕ) → i < scan isDigit s i → (i < length s) × (isDigit (getD s i 0) ≡ true)
+unfolding scan run
+run-digit s i h =
+    ⊎-elim
+    (λ (l : i < length s).
+    (l, either (isDigit (getD s i 0)) (λ e. e) (λ e. let z : scan isDigit s i ≡ i = simp (drop-cons s i 0 l, e) (omega arith) in absurd (omega arith))))
+    (λ (l : length s ≤ i). let z : scan isDigit s i ≡ i = simp (drop-of-length-le s l) (omega arith) in absurd (omega arith))
+    (lt-or-le i (length s))
+
+-- digits alone, after spaces
+module _ (s : List ℕ) (at : ℕ) {i last n x : ℕ} {t : Bool} (z : i ≡ scan isSpace s at) (d : last ≡ scan isDigit s i) (v : n ≡ min cap (value 0 (drop i s))) (y : x ≡ getD s last 0) (w : t ≡ not (eqb x 46 || (eqb x 101 || eqb x 69))) (h : (ltb i last && (ltb n cap && t)) ≡ true) where
+  pub digits-small : n < cap
+  digits-small = ltb-true n cap (and-first (ltb n cap) t (and-second (ltb i last) (ltb n cap && t) h))
+
+  pub digits-read : {r : NumberRead} → r ≡ wholeNumber false n last → r ≡ parseNumber s at
+  digits-read {r} g =
+      let some : ltb i last ≡ true = and-first (ltb i last) (ltb n cap && t) h in
+      let after : t ≡ true = and-second (ltb n cap) t (and-second (ltb i last) (ltb n cap && t) h) in
+      let all : (t && (ltb i last && ltb n cap)) ≡ true = simp (after, some, lt-ltb n cap digits-small) in
+      let first = run-digit s i (rw (← d) (ltb-true i last some)) in
+      let low = within-ge 48 57 (getD s i 0) (sym (first .1)) in
+      let plus : eqb (getD s i 0) 43 ≡ false = ne-eqb (getD s i 0) 43 (λ e. omega arith) in
+      let minus : eqb (getD s i 0) 45 ≡ false = ne-eqb (getD s i 0) 45 (λ e. omega arith) in
+      let sign : i ≡ afterSign s i = sign-no s i {r = isSign (getD s i 0)} refl (simp (plus, minus)) in
+      let begins : startsNumber (getD s i 0) ≡ true = simp (first .1) in
+      let number : r ≡ numberFrom s i = whole-read s i {b = getD s i 0} refl sign d v y w all (simp minus g) in
+      skipped-read s at z (rest-begun s i (skipped-still s at z) (first .0) {t = true} (sym begins) refl number)
+
+pub ruleset plains = (digits-small, digits-read, skipped-still, skipped-read)
 
 -- a fault that a call made
 pub numberread-refused : {e f : Fault} → e ≡ f → N.Refused e ≡ N.Refused f

@@ -5,12 +5,12 @@ ghost use Prim.Native.Nat.{_≤_, _<_, min};
 ghost use lib.Dec.{eqb};
 ghost use lib.Ieee.{neg};
 ghost use lib.ListN.{drop, length};
-ghost use Rattle.stream.specs.Bytes.{isDigit};
+ghost use Rattle.stream.specs.Bytes.{isDigit, isSpace};
 ghost use Rattle.stream.specs.Scan.{scan};
 ghost use Rattle.numbers.specs.Digits.{cap, value};
 ghost use Rattle.numbers.specs.Powers.{powerOf};
-ghost use Rattle.numbers.specs.Held.{push, heldMantissa, heldExponent, wholeNumber};
-ghost use Rattle.numbers.specs.Number.{startsNumber, afterSign, mantissaAt, exponentFrom, noExponent, exponentAt, scaleOf, valueOf, refusedAt, scaled, finished, numberFrom, parseNumber, parseNumberOrPercent, afterItem, parseListNumber, parseListNumberOrPercent};
+ghost use Rattle.numbers.specs.Held.{push, heldMantissa, heldExponent, wholeNumber, isDecimal, decimalNumber};
+ghost use Rattle.numbers.specs.Number.{startsNumber, afterSign, mantissaAt, exponentFrom, noExponent, exponentAt, scaleOf, valueOf, refusedAt, scaled, finished, parseNumber, parseNumberOrPercent, afterItem, parseListNumber, parseListNumberOrPercent};
 use stream::Fault;
 use stream::Place;
 use stream::Trouble;
@@ -92,6 +92,23 @@ fn power(k: usize) -> f64
     ensures { λ r. ⌜ r ≡ powerOf k ⌝ }
 {
     POWERS[k]
+}
+
+// Most fractions are short: their powers are told without the table.
+fn small_power(k: usize) -> f64
+    requires { ⌜ k < 23 ⌝ }
+    ensures { λ r. ⌜ r ≡ powerOf k ⌝ }
+{
+    if k == 1 {
+        return 10.0;
+    }
+    if k == 2 {
+        return 100.0;
+    }
+    if k == 3 {
+        return 1000.0;
+    }
+    power(k)
 }
 
 // One digit more; at 2^53 the value is held, so that no run of digits overflows.
@@ -249,7 +266,7 @@ fn value_of(minus: bool, m: u64, down: bool, by: usize) -> f64
     ensures { λ r. ⌜ r ≡ valueOf minus m down by ⌝ }
 {
     let x = m as f64;
-    let p = power(by);
+    let p = small_power(by);
     if down {
         return signed(minus, x / p);
     }
@@ -323,41 +340,106 @@ fn whole_number(minus: bool, m: u64, end: usize) -> NumberRead
     )
 }
 
-// Most numbers are digits alone: they are told before a fraction and an exponent are looked for.
-fn number_from(text: &[u8], start: Place) -> NumberRead
+fn is_e(b: u8) -> bool
+    ensures { λ r. ⌜ r ≡ (eqb b 101 || eqb b 69) ⌝ }
+{
+    (b == b'e') | (b == b'E')
+}
+
+// The digits at `from`: without a sign before them they are those that were read at `i`.
+fn digits_after(text: &[u8], i: usize, from: usize, last: usize, n: u64) -> Digits
+    requires { ⌜ last ≡ scan isDigit (now text) i ⌝ }
+    requires { ⌜ n ≡ min cap (value 0 (drop i (now text))) ⌝ }
+    ensures { λ r. ⌜ (r .end ≡ scan isDigit (now (text .entry)) from) × (r .value ≡ min cap (value 0 (drop from (now (text .entry))))) ⌝ }
+{
+    if from == i {
+        return Digits {
+            end: last,
+            value: n,
+        };
+    }
+    read_digits(text, from, 0)
+}
+
+// Whether digits with a fraction are all of a number that needs no refusal; b is the byte after them.
+fn is_decimal(m: Mantissa, b: u8) -> bool
+    ensures { λ r. ⌜ r ≡ isDecimal m b ⌝ }
+{
+    (m.ok & m.dotted) & ((m.value < LIMIT) & ((m.fraction <= 22) & !is_e(b)))
+}
+
+fn decimal_number(minus: bool, m: Mantissa) -> NumberRead
+    requires { ⌜ (m .value < cap) × (m .fraction < 23) ⌝ }
+    ensures { λ r. ⌜ r ≡ decimalNumber minus m ⌝ }
+{
+    let value = value_of(minus, m.value, true, m.fraction);
+    let end = m.end;
+    NumberRead::Value(
+        Number {
+            value,
+            whole: false,
+            end: Place(end),
+        },
+        Place(end),
+    )
+}
+
+// The number whose first byte is at `start`, where a run of digits, which may be empty, has been read.
+// Whole numbers and short decimals are told before an exponent is looked for.
+fn number_rest(text: &[u8], start: Place, last: usize, n: u64) -> NumberRead
     requires { ⌜ length (now text) ≤ 4096 ⌝ }
-    ensures { λ r. ⌜ r ≡ numberFrom (now (text .entry)) (start .0) ⌝ }
+    requires { ⌜ scan isSpace (now text) (start .0) ≡ start .0 ⌝ }
+    requires { ⌜ last ≡ scan isDigit (now text) (start .0) ⌝ }
+    requires { ⌜ n ≡ min cap (value 0 (drop (start .0) (now text))) ⌝ }
+    ensures { λ r. ⌜ r ≡ parseNumber (now (text .entry)) (start .0) ⌝ }
 {
     let i = start.0;
-    let b = stream::byte_at(text, i);
+    if text.len() <= i {
+        return refused_at(Trouble::TextEnded, start, i);
+    }
+    let b = text[i];
+    if !starts_number(b) {
+        return refused_at(Trouble::WrongByte, start, i);
+    }
     let from = after_sign(text, i);
-    let whole = read_digits(text, from, 0);
-    let last = whole.end;
-    let n = whole.value;
-    let c = stream::byte_at(text, last);
-    if ends_whole(c) & ((from < last) & (n < LIMIT)) {
-        return whole_number(b == b'-', n, last);
+    let whole = digits_after(text, i, from, last, n);
+    let dot = whole.end;
+    let v = whole.value;
+    if ends_whole(stream::byte_at(text, dot)) & ((from < dot) & (v < LIMIT)) {
+        return whole_number(b == b'-', v, dot);
     }
     let m = mantissa_at(text, from, whole);
     let end = m.end;
-    let e = exponent_at(text, end);
-    finish(b == b'-', m, e, start)
+    if is_decimal(m, stream::byte_at(text, end)) {
+        return decimal_number(b == b'-', m);
+    }
+    finish(b == b'-', m, exponent_at(text, end), start)
 }
 
-// A number, spaces before it skipped.
+// A number where no space is: the caller has skipped them.
+pub fn number_from(text: &[u8], start: Place) -> NumberRead
+    requires { ⌜ length (now text) ≤ 4096 ⌝ }
+    requires { ⌜ scan isSpace (now text) (start .0) ≡ start .0 ⌝ }
+    ensures { λ r. ⌜ r ≡ parseNumber (now (text .entry)) (start .0) ⌝ }
+{
+    let d = read_digits(text, start.0, 0);
+    number_rest(text, start, d.end, d.value)
+}
+
+// A number, spaces before it skipped. Most are digits alone: they are told before anything else is looked for.
 pub fn parse_number(text: &[u8], at: Place) -> NumberRead
     requires { ⌜ length (now text) ≤ 4096 ⌝ }
     ensures { λ r. ⌜ r ≡ parseNumber (now (text .entry)) (at .0) ⌝ }
 {
     let start = stream::skip_spaces(text, at);
     let i = start.0;
-    if text.len() <= i {
-        return refused_at(Trouble::TextEnded, start, i);
+    let d = read_digits(text, i, 0);
+    let n = d.value;
+    let last = d.end;
+    if (i < last) & ((n < LIMIT) & ends_whole(stream::byte_at(text, last))) {
+        return whole_number(false, n, last);
     }
-    if starts_number(text[i]) {
-        return number_from(text, start);
-    }
-    refused_at(Trouble::WrongByte, start, i)
+    number_rest(text, start, last, n)
 }
 
 // A number, and a `%` directly after it: its hundredth then.

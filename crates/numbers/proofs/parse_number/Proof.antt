@@ -1,5 +1,4 @@
-use Rattle.stream.proofs.Flows.{flow}
-use Rattle.numbers.specs.Number.{parseNumber}
+use Rattle.numbers.proofs.Steps.{plains}
 use borrow.Author.Needs.{needs}
 use Rattle.numbers.proofs.parse_number.Statement.{statement}
 use Rattle.numbers.proofs.parse_number.Tie as tie
@@ -10,10 +9,9 @@ parse-number-spec =
     (tie.spec
     (λ c κs. search needs)
     (λ c κs. search needs)
-    (λ c. unfold parseNumber in search (flow, needs) depth 20)
-    (λ c. search needs)
     (λ c κs. search needs)
     (λ c κs. search needs)
-    (λ c. unfold parseNumber in search (flow, needs) depth 20)
-    (λ c κs. search needs)
-    (λ c. unfold parseNumber in search (flow, needs) depth 20))
+    (λ c κs. search (plains, needs))
+    (λ c. search (plains, needs))
+    (λ c κs. search (plains, needs))
+    (λ c. search (plains, needs)))
