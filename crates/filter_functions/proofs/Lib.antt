@@ -1,4 +1,5 @@
 pub mod Steps
+pub mod Naming
 pub mod Shifts
 pub mod Values
 pub mod Sames

@@ -1,7 +1,7 @@
 -- One step of a filter list. Quotations are of document 01.
 use Prim.Native.Nat.{ℕ, _+_}
 use mathlib.Core.Bool.{cond}
-use mathlib.Core.List.{List}
+use mathlib.Core.List.{List, []}
 use lib.Dec.{leb}
 use lib.ListN.{length, drop}
 use Rattle.stream.specs.Bytes.{isSpace, isAsciiIdent}
@@ -21,6 +21,8 @@ use Rattle.filter_functions.specs.declared.FilterRead.the-variants as F
 use Rattle.filter_functions.specs.declared.FilterStep.{FilterStep}
 use Rattle.filter_functions.specs.declared.FilterStep.the-variants as O
 use Rattle.filter_functions.specs.declared.FilterValue.{FilterValue}
+use Rattle.filter_functions.specs.declared.NameRead.{NameRead}
+use Rattle.filter_functions.specs.declared.NameRead.the-variants as M
 use Rattle.filter_functions.specs.declared.Plain.the-variants as P
 use Rattle.filter_functions.specs.declared.StepRead.{StepRead}
 use Rattle.filter_functions.specs.declared.StepRead.the-variants as S
@@ -43,6 +45,29 @@ filterName w =
     (cond (same w (ascii "drop-shadow")) N.DropShadow
     (cond (same w (ascii "hue-rotate")) N.HueRotate
     (cond (same w (ascii "url")) N.Url (plainName w))))
+
+-- a name's bytes and its bracket; of an unknown one nothing is known
+abbrev pub opened : FilterName → List ℕ
+opened N.Blur = ascii "blur("
+opened N.DropShadow = ascii "drop-shadow("
+opened N.HueRotate = ascii "hue-rotate("
+opened (N.Plain P.Brightness) = ascii "brightness("
+opened (N.Plain P.Contrast) = ascii "contrast("
+opened (N.Plain P.Grayscale) = ascii "grayscale("
+opened (N.Plain P.Invert) = ascii "invert("
+opened (N.Plain P.Opacity) = ascii "opacity("
+opened (N.Plain P.Saturate) = ascii "saturate("
+opened (N.Plain P.Sepia) = ascii "sepia("
+opened N.Url = ascii "url("
+opened N.Unknown = []
+
+-- a word, spaces, `(` (40): the beginning of `parseNext`
+unfoldable pub parseName : List ℕ → ℕ → NameRead
+parseName s start =
+    bind (scan isAsciiIdent s start) (λ end.
+    bind (scan isSpace s end) (λ left.
+    thenConsumed M.Refused (consumeByte s left 40) (λ p.
+    bind (filterName (part s start end)) (λ f. M.Named f p))))
 
 -- what the brackets of a function hold; 6 for an unknown name
 abbrev pub argumentOf : FilterName → List ℕ → ℕ → ℕ → FilterRead

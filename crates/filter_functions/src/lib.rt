@@ -1,8 +1,10 @@
 // Filter values: a step of a list of filter functions and links.
 ghost use mathlib.Core.Path.{_≡_};
 ghost use Prim.Native.Nat.{_≤_};
-ghost use lib.ListN.{length};
-ghost use Rattle.filter_functions.specs.Filters.{filterName, plainName, parseArgument, closeBracket, parseNext, afterNone, parseStep, nextFilter};
+ghost use mathlib.Core.Bool.{true};
+ghost use lib.ListN.{length, drop};
+ghost use Rattle.stream.specs.Words.{startsWith};
+ghost use Rattle.filter_functions.specs.Filters.{filterName, plainName, opened, argumentOf, parseName, closeBracket, parseNext, afterNone, parseStep, nextFilter};
 use angle::Angle;
 use color::Color;
 use length::Length;
@@ -92,6 +94,12 @@ enum FilterName {
     Unknown,
 }
 
+// A name and the place after its bracket, or why there is none.
+enum NameRead {
+    Named(FilterName, Place),
+    Refused(Fault),
+}
+
 // What an attempt to read a shadow's colour came to: only a number outside the domain refuses.
 enum ColorTry {
     Found(ShadowColor, Place),
@@ -167,13 +175,11 @@ fn parse_next(text: &[u8], start: Place) -> FilterRead
     requires { ⌜ start .0 ≤ length (now text) ⌝ }
     ensures { λ r. ⌜ r ≡ parseNext (now (text .entry)) (start .0) ⌝ }
 {
-    let end = stream::consume_ascii_ident(text, start);
-    let left = stream::skip_spaces(text, end);
-    match stream::consume_byte(text, left, b'(') {
-        Consumed::Refused(e) => FilterRead::Refused(e),
-        Consumed::Next(p) => {
+    match parse_name(text, start) {
+        NameRead::Refused(e) => FilterRead::Refused(e),
+        NameRead::Named(name, p) => {
             let at = stream::skip_spaces(text, p);
-            match parse_argument(text, start, end, at) {
+            match parse_argument(text, start, name, at) {
                 FilterRead::Refused(e) => FilterRead::Refused(e),
                 FilterRead::Value(v, q) => close_bracket(text, q, v),
             }
@@ -181,22 +187,138 @@ fn parse_next(text: &[u8], start: Place) -> FilterRead
     }
 }
 
-// What stands in the brackets after the name that goes from `name` to `end`.
-fn parse_argument(text: &[u8], name: Place, end: Place, at: Place) -> FilterRead
+// A name and its bracket. Most names stand directly before their bracket: those are told at once.
+fn parse_name(text: &[u8], start: Place) -> NameRead
     requires { ⌜ length (now text) ≤ 4096 ⌝ }
-    requires { ⌜ name .0 ≤ end .0 ⌝ }
-    requires { ⌜ end .0 ≤ length (now text) ⌝ }
-    ensures { λ r. ⌜ r ≡ parseArgument (now (text .entry)) (name .0) (end .0) (at .0) ⌝ }
+    requires { ⌜ start .0 ≤ length (now text) ⌝ }
+    ensures { λ r. ⌜ r ≡ parseName (now (text .entry)) (start .0) ⌝ }
 {
-    let from = name.0;
-    let to = end.0;
-    match filter_name(&text[from..to]) {
-        FilterName::Blur => parse_blur(text, name, at),
-        FilterName::DropShadow => parse_drop_shadow_func(text, name, at),
-        FilterName::HueRotate => parse_hue_rotate(text, name, at),
-        FilterName::Plain(plain) => parse_generic_color_func(text, name, at, plain),
-        FilterName::Url => parse_url(text, name, at),
-        FilterName::Unknown => FilterRead::Refused(stream::unexpected_data(text, name)),
+    let from = start.0;
+    let quick = quick_name(text, start);
+    let width = name_width(quick);
+    if 0 < width {
+        return NameRead::Named(quick, Place(from + width));
+    }
+    let end = stream::consume_ascii_ident(text, start);
+    let left = stream::skip_spaces(text, end);
+    match stream::consume_byte(text, left, b'(') {
+        Consumed::Refused(e) => NameRead::Refused(e),
+        Consumed::Next(p) => {
+            let to = end.0;
+            NameRead::Named(filter_name(&text[from..to]), p)
+        }
+    }
+}
+
+// A name that stands at `at` with its bracket; `Unknown` tells nothing.
+fn quick_name(text: &[u8], at: Place) -> FilterName
+    ensures { λ r. ⌜ startsWith (opened r) (drop (at .0) (now (text .entry))) ≡ true ⌝ }
+{
+    let i = at.0;
+    let first = stream::byte_at(text, i);
+    match first {
+        b'b' => {
+            if stream::starts_with(text, at, b"blur(") {
+                return FilterName::Blur;
+            }
+            if stream::starts_with(text, at, b"brightness(") {
+                return FilterName::Plain(Plain::Brightness);
+            }
+        }
+        b'd' => {
+            if stream::starts_with(text, at, b"drop-shadow(") {
+                return FilterName::DropShadow;
+            }
+        }
+        b'h' => {
+            if stream::starts_with(text, at, b"hue-rotate(") {
+                return FilterName::HueRotate;
+            }
+        }
+        b'u' => {
+            if stream::starts_with(text, at, b"url(") {
+                return FilterName::Url;
+            }
+        }
+        _ => {
+            return quick_plain(text, at, first);
+        }
+    }
+    FilterName::Unknown
+}
+
+// The same for the plain names that share their first byte with no other kind.
+fn quick_plain(text: &[u8], at: Place, first: u8) -> FilterName
+    ensures { λ r. ⌜ startsWith (opened r) (drop (at .0) (now (text .entry))) ≡ true ⌝ }
+{
+    match first {
+        b'c' => {
+            if stream::starts_with(text, at, b"contrast(") {
+                return FilterName::Plain(Plain::Contrast);
+            }
+        }
+        b'g' => {
+            if stream::starts_with(text, at, b"grayscale(") {
+                return FilterName::Plain(Plain::Grayscale);
+            }
+        }
+        b'i' => {
+            if stream::starts_with(text, at, b"invert(") {
+                return FilterName::Plain(Plain::Invert);
+            }
+        }
+        b'o' => {
+            if stream::starts_with(text, at, b"opacity(") {
+                return FilterName::Plain(Plain::Opacity);
+            }
+        }
+        b's' => {
+            if stream::starts_with(text, at, b"saturate(") {
+                return FilterName::Plain(Plain::Saturate);
+            }
+            if stream::starts_with(text, at, b"sepia(") {
+                return FilterName::Plain(Plain::Sepia);
+            }
+        }
+        _ => {}
+    }
+    FilterName::Unknown
+}
+
+// The bytes of a name and its bracket.
+fn name_width(name: FilterName) -> usize
+    ensures { λ r. ⌜ r ≡ length (opened name) ⌝ }
+{
+    match name {
+        FilterName::Blur => 5,
+        FilterName::DropShadow => 12,
+        FilterName::HueRotate => 11,
+        FilterName::Url => 4,
+        FilterName::Plain(plain) => match plain {
+            Plain::Brightness => 11,
+            Plain::Contrast => 9,
+            Plain::Grayscale => 10,
+            Plain::Invert => 7,
+            Plain::Opacity => 8,
+            Plain::Saturate => 9,
+            Plain::Sepia => 6,
+        },
+        FilterName::Unknown => 0,
+    }
+}
+
+// What stands in the brackets after the name.
+fn parse_argument(text: &[u8], start: Place, name: FilterName, at: Place) -> FilterRead
+    requires { ⌜ length (now text) ≤ 4096 ⌝ }
+    ensures { λ r. ⌜ r ≡ argumentOf name (now (text .entry)) (start .0) (at .0) ⌝ }
+{
+    match name {
+        FilterName::Blur => parse_blur(text, start, at),
+        FilterName::DropShadow => parse_drop_shadow_func(text, start, at),
+        FilterName::HueRotate => parse_hue_rotate(text, start, at),
+        FilterName::Plain(plain) => parse_generic_color_func(text, start, at, plain),
+        FilterName::Url => parse_url(text, start, at),
+        FilterName::Unknown => FilterRead::Refused(stream::unexpected_data(text, start)),
     }
 }
 

@@ -1,7 +1,4 @@
-use Rattle.stream.proofs.Flows.{bind-is}
 use Rattle.filter_functions.proofs.Steps.{arguments, filter-refused}
-use Rattle.filter_functions.specs.Filters.{parseArgument}
-use Rattle.stream.specs.Words.{part}
 use borrow.Author.Needs.{needs}
 use Rattle.filter_functions.proofs.parse_argument.Statement.{statement}
 use Rattle.filter_functions.proofs.parse_argument.Tie as tie
@@ -11,8 +8,6 @@ parse-argument-spec =
     tie.close
     (tie.spec
     (λ c. search needs)
-    (λ c. search needs)
-    (λ c. search needs)
     (λ c κs. search needs)
     (λ c. search needs)
     (λ c κs. search needs)
@@ -24,11 +19,9 @@ parse-argument-spec =
     (λ c κs. search needs)
     (λ c. search needs)
     (λ c κs. search needs)
-    (λ c. search needs)
-    (λ c κs. search needs)
-    (λ c. unfold parseArgument part in search (bind-is, arguments, needs) depth 20)
-    (λ c. unfold parseArgument part in search (bind-is, arguments, needs) depth 20)
-    (λ c. unfold parseArgument part in search (bind-is, arguments, needs) depth 20)
-    (λ c. unfold parseArgument part in search (bind-is, arguments, needs) depth 20)
-    (λ c. unfold parseArgument part in search (bind-is, arguments, needs) depth 20)
-    (λ c. unfold parseArgument part in search (bind-is, arguments, filter-refused, needs) depth 20))
+    (λ c. search (arguments, needs) depth 20)
+    (λ c. search (arguments, needs) depth 20)
+    (λ c. search (arguments, needs) depth 20)
+    (λ c. search (arguments, needs) depth 20)
+    (λ c. search (arguments, needs) depth 20)
+    (λ c. search (arguments, filter-refused, needs) depth 20))

@@ -1,7 +1,6 @@
-use Rattle.stream.proofs.Flows.{bind-is, consumes}
+use Rattle.stream.proofs.Flows.{bind-is}
 use Rattle.filter_functions.proofs.Steps.{filtered}
-use Rattle.filter_functions.specs.Filters.{parseNext}
-use Rattle.stream.proofs.Scans.{from-scan, scan-inside}
+use Rattle.filter_functions.proofs.Naming.{named}
 use borrow.Author.Needs.{needs}
 use Rattle.filter_functions.proofs.parse_next.Statement.{statement}
 use Rattle.filter_functions.proofs.parse_next.Tie as tie
@@ -11,15 +10,13 @@ parse-next-spec =
     tie.close
     (tie.spec
     (λ c κs. search needs)
+    (λ c. search needs)
+    (λ c. search needs)
     (λ c κs. search needs)
     (λ c κs. search needs)
     (λ c. search needs)
     (λ c. search needs)
     (λ c κs. search needs)
-    (λ c κs. search (from-scan, scan-inside, needs))
-    (λ c. search needs)
-    (λ c. search needs)
-    (λ c κs. search needs)
-    (λ c. unfold parseNext in search (bind-is, consumes, filtered, needs) depth 20)
-    (λ c. unfold parseNext in search (bind-is, consumes, filtered, needs) depth 20)
-    (λ c. unfold parseNext in search (bind-is, consumes, filtered, needs) depth 20))
+    (λ c. search (named, filtered, needs) depth 20)
+    (λ c. search (named, bind-is, filtered, needs) depth 20)
+    (λ c. search (named, bind-is, filtered, needs) depth 20))
