@@ -1,5 +1,6 @@
 pub mod Steps
 pub mod Digits
+pub mod Flat
 pub mod Shifts
 pub mod Values
 pub mod Sames

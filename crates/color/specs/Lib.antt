@@ -1,5 +1,6 @@
 pub mod Moves
 pub mod Hex
+pub mod Flat
 pub mod Hsl
 pub mod Color
 pub mod Answer

@@ -3,6 +3,7 @@ ghost use mathlib.Core.Path.{_≡_};
 ghost use Prim.Native.Nat.{_+_, _≤_};
 ghost use lib.ListN.{length};
 ghost use Rattle.color.specs.Hex.{fromHex, shortHex, hexPair, shortColor, longColor, parseHex};
+ghost use Rattle.color.specs.Flat.{hexDigit, sixDigits, threeDigits, hexAlone};
 ghost use Rattle.color.specs.Hsl.{hueToRgb, hslToRgb, hslColor};
 ghost use Rattle.color.specs.Color.{afterNumber, closeBracket, parseAlpha, rgbMarked, rgbPlain, rgbRest, parseRgb, hslRest, parseHsl, isRgb, isHsl, namedColor, parseWord, parseColor, parseColorText};
 ghost use Rattle.color.specs.Answer.{fromStr};
@@ -32,10 +33,22 @@ pub enum ColorAnswer {
     Refused(Refusal),
 }
 
+// What a try at hex digits found: their colour, or that the general path must tell.
+enum HexTry {
+    Digits(Color),
+    Other,
+}
+
 // A colour as a whole text, for a caller who has promised nothing of it.
 pub fn from_str(text: &[u8]) -> ColorAnswer
     ensures { λ r. ⌜ r ≡ fromStr (now (text .entry)) ⌝ }
 {
+    match hex_alone(text) {
+        HexTry::Digits(color) => {
+            return ColorAnswer::Value(color);
+        }
+        HexTry::Other => {}
+    }
     match stream::admit_text(text) {
         Admission::Refused(refusal) => ColorAnswer::Refused(refusal),
         Admission::Admitted => match parse_color_text(text) {
@@ -43,6 +56,24 @@ pub fn from_str(text: &[u8]) -> ColorAnswer
             ColorRead::Refused(e) => ColorAnswer::Refused(stream::refusal_of(text, e)),
         },
     }
+}
+
+// A text that is `#` and six or three digits: all ASCII, so it needs no test of UTF-8.
+fn hex_alone(text: &[u8]) -> HexTry
+    ensures { λ r. ⌜ r ≡ hexAlone (now (text .entry)) ⌝ }
+{
+    if text.len() == 7 {
+        if text[0] == b'#' {
+            return six_digits(text, 1);
+        }
+        return HexTry::Other;
+    }
+    if text.len() == 4 {
+        if text[0] == b'#' {
+            return three_digits(text, 1);
+        }
+    }
+    HexTry::Other
 }
 
 // A colour as a whole text. What follows it could be an icccolor, which is not read.
@@ -85,6 +116,14 @@ fn parse_hex(text: &[u8], at: Place) -> ColorRead
     ensures { λ r. ⌜ r ≡ parseHex (now (text .entry)) (at .0) ⌝ }
 {
     let from = at.0;
+    if (from + 6 <= text.len()) & !stream::is_hex_digit(stream::byte_at(text, from + 6)) {
+        match six_digits(text, from) {
+            HexTry::Digits(color) => {
+                return ColorRead::Value(color, Place(from + 6));
+            }
+            HexTry::Other => {}
+        }
+    }
     let end = stream::skip_hex_digits(text, at);
     let to = end.0;
     match to - from {
@@ -307,6 +346,59 @@ fn hsl_rest(text: &[u8], at: Place, hue: f64) -> ColorRead
             NumberRead::Refused(e) => ColorRead::Refused(e),
             NumberRead::Value(l, q) => parse_alpha(text, q, hsl_color(hue, s.value, l.value)),
         },
+    }
+}
+
+// Six digits, the most common colour, each read once and all tested together.
+fn six_digits(text: &[u8], at: usize) -> HexTry
+    requires { ⌜ at + 6 ≤ length (now text) ⌝ }
+    ensures { λ r. ⌜ r ≡ sixDigits (now (text .entry)) at ⌝ }
+{
+    let a = hex_digit(text[at]);
+    let b = hex_digit(text[at + 1]);
+    let c = hex_digit(text[at + 2]);
+    let d = hex_digit(text[at + 3]);
+    let e = hex_digit(text[at + 4]);
+    let f = hex_digit(text[at + 5]);
+    if (a < 16) & ((b < 16) & ((c < 16) & ((d < 16) & ((e < 16) & (f < 16))))) {
+        return HexTry::Digits(Color {
+            red: a * 16 + b,
+            green: c * 16 + d,
+            blue: e * 16 + f,
+            alpha: 255,
+        });
+    }
+    HexTry::Other
+}
+
+// Three digits, likewise.
+fn three_digits(text: &[u8], at: usize) -> HexTry
+    requires { ⌜ at + 3 ≤ length (now text) ⌝ }
+    ensures { λ r. ⌜ r ≡ threeDigits (now (text .entry)) at ⌝ }
+{
+    let a = hex_digit(text[at]);
+    let b = hex_digit(text[at + 1]);
+    let c = hex_digit(text[at + 2]);
+    if (a < 16) & ((b < 16) & (c < 16)) {
+        return HexTry::Digits(Color {
+            red: a * 16 + a,
+            green: b * 16 + b,
+            blue: c * 16 + c,
+            alpha: 255,
+        });
+    }
+    HexTry::Other
+}
+
+// The value of a hex digit, 16 for another byte.
+fn hex_digit(c: u8) -> u8
+    ensures { λ r. ⌜ r ≡ hexDigit c ⌝ }
+{
+    match c {
+        b'0'..=b'9' => c - b'0',
+        b'a'..=b'f' => c - b'a' + 10,
+        b'A'..=b'F' => c - b'A' + 10,
+        _ => 16,
     }
 }
 

@@ -1,4 +1,5 @@
 use Rattle.stream.proofs.Edges.{admitted, edges}
+use Rattle.color.proofs.Flat.{alone-is}
 use Rattle.color.proofs.Steps.{answer-refused, coloured}
 use Rattle.color.specs.Answer.{fromStr}
 use borrow.Author.Needs.{needs}
@@ -9,6 +10,10 @@ pub from-str-spec : {M : Type 1} → statement M
 from-str-spec =
     tie.close
     (tie.spec
+    (λ c κs. search needs)
+    (λ c. search needs)
+    (λ c. search (alone-is, needs))
+    (λ c. search needs)
     (λ c κs. search needs)
     (λ c. search needs)
     (λ c. search needs)

@@ -1,6 +1,7 @@
 use Rattle.stream.proofs.Flows.{flow}
 use Rattle.stream.proofs.Scans.{from-scan}
 use Rattle.color.proofs.Digits.{run-holds}
+use Rattle.color.proofs.Flat.{flat-inside, hex-flat}
 use Rattle.color.proofs.Steps.{coloured}
 use Rattle.color.specs.Hex.{parseHex}
 use borrow.Author.Needs.{needs}
@@ -11,6 +12,15 @@ pub parse-hex-spec : {M : Type 1} → statement M
 parse-hex-spec =
     tie.close
     (tie.spec
+    (λ c. search needs)
+    (λ c. search needs)
+    (λ c κs. search needs)
+    (λ c κs. search needs)
+    (λ c κs. search (flat-inside, needs))
+    (λ c. search needs)
+    (λ c. search needs)
+    (λ c. search (hex-flat, needs))
+    (λ c. search needs)
     (λ c κs. search needs)
     (λ c. search (from-scan, needs))
     (λ c κs. search (run-holds, needs))
