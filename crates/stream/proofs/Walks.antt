@@ -8,7 +8,7 @@ use native.Mathlib.Omega.{arith}
 use borrow.Author.Tests.{eq-eqb, ne-eqb, lt-ltb, le-ltb, ltb-true}
 use lib.Dec.{eqb, ltb, eqb·suc-zero}
 use lib.ListN.{length, getD, take, drop, drop-of-length-le, length-drop}
-use lib.Seq.{drop-cons, drop-drop}
+use lib.Seq.{drop-cons, drop-drop, take-length, take-nil}
 use mir.Syntax.{w64}
 use mir.Val.{Fits}
 use Rattle.stream.specs.Bytes.{isTail}
@@ -69,7 +69,7 @@ char-fits s i n q h = omega (arith, char-le (drop i s), length-drop i s)
 pub char-add : (s : List ℕ) (i n : ℕ) → n ≡ charLen (drop i s) → i < length s → length s < 2 ^ 64 → Fits w64 (i + n)
 char-add s i n q h l = omega (arith, char-fits s i n q h)
 
-pub ruleset walked = (walk-start, walk-end, walk-bad, walk-go, walk-ascii)
+pub ruleset walked = (walk-end, walk-bad, walk-go, walk-ascii)
 
 -- the loop that seeks the largest byte: with it the rest is judged as the whole is
 pub record Topping (s : List ℕ) (i most : ℕ) : Type 0 where
@@ -102,17 +102,75 @@ module _ {s : List ℕ} {i most : ℕ} (v : Topping s i most) where
 
 pub ruleset topped = (top-start, top-go, top-end)
 
-walk-plain : (l : List ℕ) (i : ℕ) → isAscii l ≡ true → walk i 0 l ≡ WellFormed
+-- ASCII in front is gone over byte by byte
+walk-front : (n : ℕ) (l : List ℕ) (i : ℕ) → isAscii (take n l) ≡ true → walk i 0 l ≡ walk (i + n) 0 (drop n l)
 unfolding walk isAscii
-walk-plain [] i e = refl
-walk-plain (x ∷ xs) i e =
-    let h : x < 128 = ltb-true x 128 (and-first (ltb x 128) (isAscii xs) e) in
-    simp (char-ascii x xs h) (walk-plain xs (i + 1) (and-second (ltb x 128) (isAscii xs) e))
+walk-front zero l i e =
+    let q : i + 0 ≡ i = omega arith in
+    rw q refl
+walk-front (suc n) [] i e = refl
+walk-front (suc n) (x ∷ xs) i e =
+    let h : x < 128 = ltb-true x 128 (and-first (ltb x 128) (isAscii (take n xs)) e) in
+    let q : i + suc n ≡ i + 1 + n = omega arith in
+    simp (char-ascii x xs h, q) (walk-front n xs (i + 1) (and-second (ltb x 128) (isAscii (take n xs)) e))
+
+-- so the walk may start after it
+pub walk-from : (s : List ℕ) (i : ℕ) → isAscii (take i s) ≡ true → Walking s i
+unfolding utf8Of
+walk-from s i e =
+    let q : 0 + i ≡ i = omega arith in
+    record { same = sym (rw q at (walk-front i s 0 e)) }
 
 -- a text of ASCII is UTF-8: r is what the test answered
 pub ascii-utf8 : (s : List ℕ) {r : Bool} → r ≡ isAscii s → r ≡ true → WellFormed ≡ utf8Of s
-unfolding utf8Of
-ascii-utf8 s q e = sym (walk-plain s 0 (sym q ∙ e))
+ascii-utf8 s {r} q e = walk-end (walk-from s (length s) (rw (take-length s) (sym q ∙ e))) (omega arith)
+
+-- the four bytes from i on, as the code compares them
+pub four-ascii : (s : List ℕ) (i : ℕ) → i + 4 ≤ length s
+    → (ltb (getD s i 0) 128 && (ltb (getD s (i + 1) 0) 128 && (ltb (getD s (i + 2) 0) 128 && ltb (getD s (i + 3) 0) 128))) ≡ isAscii (take 4 (drop i s))
+unfolding isAscii
+four-ascii s i h =
+    let a : i + 1 ≡ suc i = omega arith in
+    let b : i + 2 ≡ suc (suc i) = omega arith in
+    let d : i + 3 ≡ suc (suc (suc i)) = omega arith in
+    simp (
+      drop-cons s i 0 (omega arith),
+      drop-cons s (suc i) 0 (omega arith),
+      drop-cons s (suc (suc i)) 0 (omega arith),
+      drop-cons s (suc (suc (suc i))) 0 (omega arith),
+      a,
+      b,
+      d,
+      and-true,
+    )
+
+ascii-add : (i n : ℕ) (s : List ℕ) → isAscii (take i s) ≡ true → isAscii (take n (drop i s)) ≡ true → isAscii (take (i + n) s) ≡ true
+unfolding isAscii
+ascii-add zero n s e f =
+    let q : 0 + n ≡ n = omega arith in
+    rw q f
+ascii-add (suc i) n [] e f = simp take-nil
+ascii-add (suc i) n (x ∷ xs) e f =
+    let q : suc i + n ≡ suc (i + n) = omega arith in
+    simp (q, and-first (ltb x 128) (isAscii (take i xs)) e) (ascii-add i n xs (and-second (ltb x 128) (isAscii (take i xs)) e) f)
+
+-- the loop that goes by fours: the bytes before i are ASCII
+pub record Clearing (s : List ℕ) (i : ℕ) : Type 0 where
+  pub ascii : isAscii (take i s) ≡ true
+  pub inside : i ≤ length s
+
+pub clear-start : (s : List ℕ) → Clearing s 0
+unfolding isAscii
+clear-start s = record { ascii = refl; inside = omega arith }
+
+module _ {s : List ℕ} {i : ℕ} (v : Clearing s i) where
+  pub clear-go : {r : Bool} → r ≡ isAscii (take 4 (drop i s)) → r ≡ true → i + 4 ≤ length s → Clearing s (i + 4)
+  clear-go {r} q e h = record { ascii = ascii-add i 4 s (v .ascii) (sym q ∙ e); inside = h }
+
+  pub clear-end : isAscii (take i s) ≡ true
+  clear-end = v .ascii
+
+pub ruleset cleared = (clear-start, clear-go, clear-end)
 
 -- the loop that goes on by characters: as many are left, and what it comes to is what it came to from the start
 pub record Skipping (s : List ℕ) (n at left i : ℕ) : Type 0 where

@@ -1,7 +1,7 @@
 use borrow.Author.Needs.{needs}
 use Prim.Native.Nat.{_-_}
 use lib.ListN.{length}
-use Rattle.stream.proofs.Walks.{Walking, walked, char-add, ascii-utf8}
+use Rattle.stream.proofs.Walks.{Walking, walked, walk-from, char-add, ascii-utf8}
 use Rattle.stream.proofs.characters.utf8_test.Statement.{statement}
 use Rattle.stream.proofs.characters.utf8_test.Tie as tie
 
@@ -19,7 +19,8 @@ utf8-test-spec =
     μ-loop
     (λ c κs. search needs)
     (λ c. search (ascii-utf8, needs))
-    (λ c. search (walked, needs))
+    (λ c κs. search needs)
+    (λ c. search (walk-from, needs))
     (λ c. search (walked, needs))
     (λ c. search (walked, needs))
     (λ c. search (walked, needs))
