@@ -13,7 +13,7 @@ use mir.Syntax.{w8, w64}
 use mir.Val.{Fits}
 use Rattle.stream.specs.Words.{startsWith, isCurrByteEq, same, lowerOf, lowered}
 use Rattle.stream.specs.Bytes.{within, isUpper}
-use Rattle.stream.proofs.Ranges.{within-le, and-false}
+use Rattle.stream.proofs.Ranges.{within-le, and-false, either}
 
 -- the invariant of the loop: the k bytes passed are alike, so that the rest decides
 pub record Matching (w s : List ℕ) (k : ℕ) : Type 0 where
@@ -27,20 +27,15 @@ module _ {w s : List ℕ} {k : ℕ} (v : Matching w s k) where
   unfolding startsWith
   match-all h = simp (drop-of-length-le w h) at (v .same)
 
-  module _ (h : k < length w) where
-    pub match-short : length s ≤ k → false ≡ startsWith w s
+  -- the text is no shorter than the word, so that byte k of the word has one to stand against
+  module _ (h : k < length w) (l : length w ≤ length s) where
+    pub match-go : getD s k 0 ≡ getD w k 0 → Matching w s (k + 1)
     unfolding startsWith
-    match-short l = simp (drop-cons w k 0 h, drop-of-length-le s l) at (v .same)
+    match-go e = record { same = simp add-one (simp (drop-cons w k 0 h, drop-cons s k 0 (omega arith), eq-eqb _ _ e) at (v .same)) }
 
-    pub match-go : k < length s → getD s k 0 ≡ getD w k 0 → Matching w s (k + 1)
+    pub match-other : (getD s k 0 ≡ getD w k 0 → ⊥) → false ≡ startsWith w s
     unfolding startsWith
-    match-go l e = record { same = simp add-one (simp (drop-cons w k 0 h, drop-cons s k 0 l, eq-eqb _ _ e) at (v .same)) }
-
-    pub match-other : k < length s → (getD s k 0 ≡ getD w k 0 → ⊥) → false ≡ startsWith w s
-    unfolding startsWith
-    match-other l e = simp (drop-cons w k 0 h, drop-cons s k 0 l, ne-eqb _ _ e) at (v .same)
-
-pub ruleset matched = (match-start, match-go, match-other, match-short, match-all)
+    match-other e = simp (drop-cons w k 0 h, drop-cons s k 0 (omega arith), ne-eqb _ _ e) at (v .same)
 
 starts-le : (w s : List ℕ) → startsWith w s ≡ true → length w ≤ length s
 unfolding startsWith
@@ -51,6 +46,12 @@ starts-le (w ∷ ws) (x ∷ xs) e = go (eqb x w) (starts-le ws xs) e
     go : (t : Bool) → (startsWith ws xs ≡ true → length ws ≤ length xs) → (t && startsWith ws xs) ≡ true → suc (length ws) ≤ suc (length xs)
     go true ih h = omega (arith, ih h)
     go false ih h = let z : _≡_ {A = ℕ} 0 1 = cc in absurd (omega arith)
+
+-- a word longer than the text is not there
+pub match-short : (w s : List ℕ) → length s < length w → false ≡ startsWith w s
+match-short w s h = either (startsWith w s) (λ e. absurd (omega (arith, starts-le w s e))) (λ e. sym e)
+
+pub ruleset matched = (match-start, match-go, match-other, match-short, match-all)
 
 -- a word that is there ends inside: the sum with its length fits
 pub word-inside : (w : ℕ) (ws s : List ℕ) (i : ℕ) (r : Bool) → r ≡ true → r ≡ startsWith (w ∷ ws) (drop i s) → i + suc (length ws) ≤ length s
@@ -136,16 +137,15 @@ module _ {w s : List ℕ} {k : ℕ} (v : Lowering w s k) where
   pub lower-all : length w ≤ k → true ≡ startsWith w (lowered s)
   lower-all h = match-all (v .alike) h
 
-  module _ (h : k < length w) where
-    pub lower-short : length s ≤ k → false ≡ startsWith w (lowered s)
-    lower-short l = match-short (v .alike) h (simp length-map l)
+  module _ (h : k < length w) (l : length w ≤ length s) {b : ℕ} (q : b ≡ lowerOf (getD s k 0)) where
+    pub lower-go : b ≡ getD w k 0 → Lowering w s (k + 1)
+    lower-go e = record { alike = match-go (v .alike) h (simp length-map l) (lower-at s k (omega arith) ∙ sym q ∙ e) }
 
-    module _ (l : k < length s) {b : ℕ} (q : b ≡ lowerOf (getD s k 0)) where
-      pub lower-go : b ≡ getD w k 0 → Lowering w s (k + 1)
-      lower-go e = record { alike = match-go (v .alike) h (simp length-map l) (lower-at s k l ∙ sym q ∙ e) }
+    pub lower-differs : (b ≡ getD w k 0 → ⊥) → false ≡ startsWith w (lowered s)
+    lower-differs n = match-other (v .alike) h (simp length-map l) (λ e. n (q ∙ sym (lower-at s k (omega arith)) ∙ e))
 
-      pub lower-differs : (b ≡ getD w k 0 → ⊥) → false ≡ startsWith w (lowered s)
-      lower-differs n = match-other (v .alike) h (simp length-map l) (λ e. n (q ∙ sym (lower-at s k l) ∙ e))
+pub lower-short : (w s : List ℕ) → length s < length w → false ≡ startsWith w (lowered s)
+lower-short w s h = match-short w (lowered s) (simp length-map h)
 
 pub word-add : (w s : List ℕ) (i : ℕ) {r : Bool} → r ≡ startsWith w (drop i s) → r ≡ true → i < length s → length s < 2 ^ 64 → Fits w64 (i + length w)
 word-add w s i q e h l =
@@ -169,6 +169,10 @@ module _ (s : List ℕ) (i c : ℕ) where
       go : (t : Bool) → ltb i (length s) ≡ t → (t && eqb (getD s i 0) c) ≡ true → i < length s
       go true f g = ltb-true i (length s) f
       go false f g = let z : _≡_ {A = ℕ} 0 1 = cc in absurd (omega arith)
+
+  -- and is the one asked for
+  pub curr-byte : {r : Bool} → r ≡ isCurrByteEq s i c → r ≡ true → getD s i 0 ≡ c
+  curr-byte q e = eqb-true (getD s i 0) c (curr-there (curr-inside q e) ∙ sym q ∙ e)
 
   pub curr-next : {r : Bool} → r ≡ isCurrByteEq s i c → r ≡ true → length s < 2 ^ 64 → Fits w64 (i + 1)
   curr-next q e h = omega (arith, curr-inside q e)

@@ -177,15 +177,15 @@ pub fn skip_spaces(text: &[u8], at: Place) -> Place
     Place(i)
 }
 
-// Whether `text` begins with `word`.
+// Whether `text` begins with `word`. The length is judged once: the loop then only compares.
 pub fn begins(text: &[u8], word: &[u8]) -> bool
     ensures { λ r. ⌜ r ≡ startsWith (now (word .entry)) (now (text .entry)) ⌝ }
 {
+    if text.len() < word.len() {
+        return false;
+    }
     let mut k: usize = 0;
     while k < word.len() {
-        if text.len() <= k {
-            return false;
-        }
         if text[k] == word[k] {
             k += 1;
         } else {
@@ -271,11 +271,11 @@ pub fn to_ascii_lowercase(b: u8) -> u8
 fn begins_lowered(text: &[u8], word: &[u8]) -> bool
     ensures { λ r. ⌜ r ≡ startsWith (now (word .entry)) (lowered (now (text .entry))) ⌝ }
 {
+    if text.len() < word.len() {
+        return false;
+    }
     let mut k: usize = 0;
     while k < word.len() {
-        if text.len() <= k {
-            return false;
-        }
         if to_ascii_lowercase(text[k]) == word[k] {
             k += 1;
         } else {

@@ -17,13 +17,13 @@ begins-lowered-spec =
     (tie.spec
     Inv-loop
     μ-loop
-    (λ c. search (lower-start, needs))
     (λ c. search (lower-short, needs))
+    (λ c. search (lower-start, needs))
     (λ c. search needs)
     (λ c κs. search needs)
     (λ c. search needs)
     (λ c. search needs)
     (λ c. search needs)
-    (λ c. lower-go (c .before .before .before .before .before .before .loop .inv) (c .before .before .before .before .before .loop-test .taken) (c .before .before .before .before .if1 .left) (c .before .before .to-ascii-lowercase .ensures) (c .if2 .taken))
-    (λ c. lower-differs (c .before .before .before .before .before .before .loop .inv) (c .before .before .before .before .before .loop-test .taken) (c .before .before .before .before .if1 .left) (c .before .before .to-ascii-lowercase .ensures) (c .if2 .left))
+    (λ c. lower-go (c .before .before .before .before .before .loop .inv) (c .before .before .before .before .loop-test .taken) (c .before .before .before .before .before .before .if1 .left) (c .before .before .to-ascii-lowercase .ensures) (c .if2 .taken))
+    (λ c. lower-differs (c .before .before .before .before .before .loop .inv) (c .before .before .before .before .loop-test .taken) (c .before .before .before .before .before .before .if1 .left) (c .before .before .to-ascii-lowercase .ensures) (c .if2 .left))
     (λ c. search (lower-all, needs)))
