@@ -4,7 +4,7 @@ use mathlib.Core.Bool.{Bool, true, false, cond, _&&_}
 use mathlib.Core.List.{List, _++_}
 use mathlib.Core.Path.{_≡_, refl, ap, sym}
 use native.Mathlib.Omega.{arith}
-use borrow.Author.Tests.{lt-leb, le-leb, leb-false, eqb-true, lt-ltb}
+use borrow.Author.Tests.{lt-leb, le-leb, leb-false, eqb-true, eq-eqb, lt-ltb}
 use lib.Dec.{eqb, leb, ltb}
 use lib.ListN.{length, getD, drop, length-append}
 use Rattle.stream.specs.Bytes.{isSpace}
@@ -18,6 +18,7 @@ use Rattle.stream.specs.declared.Fault.{Fault}
 use Rattle.stream.specs.declared.Consumed.{Consumed}
 use Rattle.stream.specs.declared.Consumed.the-variants as C
 use Rattle.stream.proofs.Ranges.{either}
+use Rattle.stream.proofs.Wording.{curr-inside, curr-byte}
 use Rattle.stream.proofs.Ahead.{Ahead, Passes, free, ahead-inside, ahead-byte, ahead-scan, ahead-pass, pass-one, pass-here, getD-more, scan-more, starts-more, end-more, part-more, word-stop, hex-stop, url-stop, digit-stop}
 
 pub same-cond : {A : Type 0} (t t′ : Bool) (x x′ y y′ : A) → t′ ≡ t → (t ≡ true → x′ ≡ x) → (t ≡ false → y′ ≡ y) → cond t′ x′ y′ ≡ cond t x y
@@ -71,6 +72,11 @@ consume-more a b i c h =
     let l : i < length a = ahead-inside h in
     let m : i < length (a ++ b) = omega (arith, length-append a b) in
     rw (lt-leb (length (a ++ b)) i m, lt-leb (length a) i l, getD-more a b i h)
+
+-- a byte that was seen is taken
+pub curr-consumed : (s : List ℕ) (i c : ℕ) {r : Bool} → r ≡ isCurrByteEq s i c → r ≡ true → consumeByte s i c ≡ C.Next (place (i + 1))
+unfolding consumeByte
+curr-consumed s i c q e = simp (lt-leb (length s) i (curr-inside s i c q e), eq-eqb (getD s i 0) c (curr-byte s i c q e))
 
 -- pass and least: a byte that was taken stands there, and reading goes on right after it
 pub record Took (s : List ℕ) (i c : ℕ) (p : Place) : Type 0 where

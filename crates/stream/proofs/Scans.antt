@@ -2,11 +2,11 @@
 use Prim.Native.Nat.{ℕ, suc, _+_, _-_, _≤_, _<_}
 use mathlib.Core.Bool.{Bool, true, false, cond}
 use mathlib.Core.List.{List, [], _∷_, _++_}
-use mathlib.Core.Path.{_≡_, refl}
+use mathlib.Core.Path.{_≡_, refl, sym}
 use native.Mathlib.Numerals.{add-one}
 use native.Mathlib.Omega.{arith}
 use lib.ListN.{length, getD, drop, length-drop, drop-of-length-le}
-use lib.Seq.{drop-cons, drop-append-add}
+use lib.Seq.{drop-cons, drop-append-add, getD-drop}
 use Rattle.stream.specs.Scan.{run, scan}
 
 -- The invariant of every scanning loop: from i on the scan comes to what it comes to from `at` on.
@@ -85,3 +85,22 @@ run-stops p (x ∷ xs) z = go (p x) refl (run-stops p xs z)
     go : (t : Bool) → p x ≡ t → p (getD xs (run p xs) 0) ≡ false → p (getD (x ∷ xs) (cond t (suc (run p xs)) 0) 0) ≡ false
     go true e ih = ih
     go false e ih = e
+
+-- a narrower class that stops at a byte outside the wider one: the wider one stops there too
+run-narrow : (p q : ℕ → Bool) → ((b : ℕ) → p b ≡ true → q b ≡ true) → (l : List ℕ) → q (getD l (run p l) 0) ≡ false → run q l ≡ run p l
+unfolding run
+run-narrow p q w [] e = refl
+run-narrow p q w (x ∷ xs) e = go (p x) refl e (run-narrow p q w xs)
+  where
+    go : (t : Bool) → p x ≡ t → q (getD (x ∷ xs) (cond t (suc (run p xs)) 0) 0) ≡ false → (q (getD xs (run p xs) 0) ≡ false → run q xs ≡ run p xs)
+        → cond (q x) (suc (run q xs)) 0 ≡ cond t (suc (run p xs)) 0
+    go true f e ih = simp (w x f) (omega (arith, ih e))
+    go false f e ih = simp e
+
+pub scan-narrow : (p q : ℕ → Bool) (s : List ℕ) (i : ℕ) → ((b : ℕ) → p b ≡ true → q b ≡ true) → q (getD s (scan p s i) 0) ≡ false → scan q s i ≡ scan p s i
+unfolding scan
+scan-narrow p q s i w e = rw (run-narrow p q w (drop i s) (rw getD-drop e))
+
+-- a scan whose first byte is of another class stays
+pub scan-here : (p : ℕ → Bool) (s : List ℕ) (i : ℕ) → p (getD s i 0) ≡ false → i < length s → scan p s i ≡ i
+scan-here p s i e h = sym (scan-stop (scan-start p s i) (sym e) refl h)

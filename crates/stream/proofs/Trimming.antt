@@ -4,7 +4,7 @@ use mathlib.Core.Bool.{Bool, true, false, cond}
 use mathlib.Core.List.{List, [], _∷_}
 use mathlib.Core.Path.{_≡_, refl, sym, _∙_}
 use native.Mathlib.Omega.{arith}
-use borrow.Author.Tests.{eq-eqb, ne-eqb, lt-leb}
+use borrow.Author.Tests.{eq-eqb, ne-eqb, le-leb, lt-leb}
 use lib.Dec.{eqb, lit≤, eqb·suc-zero}
 use lib.ListN.{length, getD, take, drop, length-drop, drop-of-length-le}
 use lib.Seq.{drop-cons, drop-drop, getD-drop, length-take-le}
@@ -172,6 +172,13 @@ module _ {s : List ℕ} {n : ℕ} where
       record { same = cc (back-skip s e (n - 1)) }
 
 pub ruleset backed = (back-start, back-end, back-stop, back-go)
+
+-- a text that ends with a plain byte is whole
+pub trim-whole : (s : List ℕ) → 0 < length s → within 33 127 (getD s (length s - 1) 0) ≡ true → trimEnd s ≡ length s
+unfolding blankBefore byteBefore
+trim-whole s h e =
+    let f : within 33 127 (byteBefore s (length s) 1) ≡ true = simp (le-leb 1 (length s) (omega arith)) e in
+    sym (back-stop (back-start s) (plain-end (byteBefore s (length s) 1) (byteBefore s (length s) 2) (byteBefore s (length s) 3) refl f) refl)
 
 back-le : (s : List ℕ) (e k : ℕ) → back s e k ≤ e
 unfolding back

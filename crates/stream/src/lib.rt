@@ -3,7 +3,7 @@ ghost use mathlib.Core.Path.{_≡_};
 ghost use Prim.Native.Nat.{min};
 ghost use lib.ListN.{drop, getD};
 ghost use Rattle.stream.specs.Faults.{consumeByte, consumeString, parseListSeparator};
-ghost use Rattle.stream.specs.Bytes.{isSign, isDigit, isUpper, isLower, within, isHexDigit, isSpace, isAsciiIdent, isTail, isLinkByte, isUrlByte, isOther};
+ghost use Rattle.stream.specs.Bytes.{isSign, isDigit, isUpper, isLower, within, isHexDigit, isSpace, isAsciiIdent, isTail, isLinkByte, isUrlByte, isOther, isBareByte};
 ghost use Rattle.stream.specs.Scan.{scan};
 ghost use Rattle.stream.specs.Words.{startsWith, isCurrByteEq, same, lowerOf, lowered};
 
@@ -396,6 +396,27 @@ pub fn skip_to_quote(text: &[u8], at: Place, quote: u8) -> Place
     let mut i = at.0;
     while i < text.len() {
         if is_other(quote, text[i]) {
+            i += 1;
+        } else {
+            return Place(i);
+        }
+    }
+    Place(i)
+}
+
+fn is_bare_byte(b: u8) -> bool
+    ensures { λ r. ⌜ r ≡ isBareByte b ⌝ }
+{
+    in_range(b, 42, 127)
+}
+
+// The end of the run at `at` of bytes that no reader of a link has to judge: most links are such a run.
+pub fn skip_bare(text: &[u8], at: Place) -> Place
+    ensures { λ r. ⌜ r .0 ≡ scan isBareByte (now (text .entry)) (at .0) ⌝ }
+{
+    let mut i = at.0;
+    while i < text.len() {
+        if is_bare_byte(text[i]) {
             i += 1;
         } else {
             return Place(i);
