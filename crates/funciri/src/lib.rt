@@ -108,8 +108,19 @@ fn quoted_link(text: &[u8], at: Place, quote: u8) -> LinkRead
     match stream::consume_byte(text, start, b'#') {
         Consumed::Refused(fault) => LinkRead::Refused(fault),
         Consumed::Next(from) => {
-            let end = stream::skip_to_quote(text, from, quote);
             let a = from.0;
+            // Most links are such a run up to their quote: nothing is to be trimmed, and no quote stands inside.
+            // `quote` may be any byte here, and a space would be skipped below.
+            let quick = stream::skip_bare(text, from);
+            let q = quick.0;
+            if ((a < q) & is_quote(quote)) & stream::is_curr_byte_eq(text, quick, quote) {
+                let link = Part {
+                    start: from,
+                    len: q - a,
+                };
+                return close_link(text, Place(q + 1), link);
+            }
+            let end = stream::skip_to_quote(text, from, quote);
             let e = end.0;
             let run = &text[a..e];
             let kept = stream::trim_end(run);
@@ -130,8 +141,18 @@ fn plain_link(text: &[u8], at: Place) -> LinkRead
     match stream::consume_byte(text, at, b'#') {
         Consumed::Refused(fault) => LinkRead::Refused(fault),
         Consumed::Next(from) => {
-            let end = stream::skip_to_space_or_bracket(text, from);
             let a = from.0;
+            // Most links are such a run up to the bracket: no quote stands inside.
+            let quick = stream::skip_bare(text, from);
+            let q = quick.0;
+            if (a < q) & stream::is_curr_byte_eq(text, quick, b')') {
+                let link = Part {
+                    start: from,
+                    len: q - a,
+                };
+                return LinkRead::Link(link, Place(q + 1));
+            }
+            let end = stream::skip_to_space_or_bracket(text, from);
             let e = end.0;
             if is_link(&text[a..e]) {
                 let link = Part {
