@@ -1,4 +1,4 @@
--- What the code holds of a value: no more than the cap; and a number of digits alone. Only contracts inside the crate speak of it.
+-- What the code holds of a value: no more than the cap; a number of digits alone, and one of digits and a fraction. Only contracts inside the crate speak of it.
 use Prim.Native.Nat.{ℕ, _+_, _-_, _*_, min}
 use mathlib.Core.Bool.{Bool, true, false, _&&_, _||_, not}
 use lib.Dec.{leb, ltb, eqb}

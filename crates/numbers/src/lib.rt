@@ -108,6 +108,15 @@ fn small_power(k: usize) -> f64
     if k == 3 {
         return 1000.0;
     }
+    if k == 4 {
+        return 10000.0;
+    }
+    if k == 5 {
+        return 100000.0;
+    }
+    if k == 6 {
+        return 1000000.0;
+    }
     power(k)
 }
 
@@ -475,7 +484,16 @@ fn after_item(text: &[u8], read: NumberRead) -> NumberRead
         NumberRead::Refused(e) => NumberRead::Refused(e),
         NumberRead::Value(n, p) => {
             let next = stream::skip_spaces(text, p);
-            NumberRead::Value(n, stream::parse_list_separator(text, next))
+            // Field by field: a number copied whole takes the bytes between its fields along.
+            let end = n.end;
+            NumberRead::Value(
+                Number {
+                    value: n.value,
+                    whole: n.whole,
+                    end,
+                },
+                stream::parse_list_separator(text, next),
+            )
         }
     }
 }

@@ -10,5 +10,8 @@ small-power-spec =
     (λ c. unfold powerOf powerBits in cc)
     (λ c. unfold powerOf powerBits in cc)
     (λ c. unfold powerOf powerBits in cc)
+    (λ c. unfold powerOf powerBits in cc)
+    (λ c. unfold powerOf powerBits in cc)
+    (λ c. unfold powerOf powerBits in cc)
     (λ c κs. search needs)
     (λ c. search needs))
