@@ -1,4 +1,6 @@
 pub mod Steps
 pub mod Papers
+pub mod Entries
+pub mod Shadows
 pub mod Going
 pub mod Single

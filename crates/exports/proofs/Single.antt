@@ -7,50 +7,9 @@ use lib.Dec.{eqb}
 use lib.ListN.{length, getD}
 use lib.Seq.{drop-length}
 use Rattle.filter_functions.specs.Filters.{nextFilter}
-use Rattle.filter_functions.specs.declared.FilterStep.{FilterStep}
-use Rattle.filter_functions.specs.declared.FilterStep.the-variants as T
-use Rattle.filter_functions.specs.declared.FilterValue.{FilterValue}
-use Rattle.filter_functions.specs.declared.FilterValue.the-variants as G
-use Rattle.filter_functions.specs.declared.Shadow.{Shadow}
-use Rattle.filter_functions.specs.declared.ShadowColor.{ShadowColor}
-use Rattle.filter_functions.specs.declared.ShadowColor.the-variants as H
 use Rattle.length.specs.Lengths.{nextLength}
-use Rattle.length.specs.declared.LengthStep.{LengthStep}
-use Rattle.length.specs.declared.LengthStep.the-variants as S
 use Rattle.exports.specs.Many.{upTo, fitting, flat, filled, filterAt, lengthAt}
-use Rattle.exports.specs.Records.{row, lengthStepRecord, shadowRow, filterRow, filterRecord}
-
-length-entries : (x : LengthStep) → length (lengthStepRecord x) ≡ 24
-unfolding row lengthStepRecord
-length-entries (S.Value l p) = refl
-length-entries (S.End p) = refl
-length-entries (S.Refused e p) = refl
-
-shadow-entries : (place : ℕ) (d : Shadow) (c : ShadowColor) → length (shadowRow place d c) ≡ 24
-unfolding row shadowRow
-shadow-entries place d H.None = refl
-shadow-entries place d (H.Some c) = refl
-
-value-entries : (place : ℕ) (v : FilterValue) → length (filterRow place v) ≡ 24
-unfolding row filterRow
-value-entries place (G.Blur l) = refl
-value-entries place (G.DropShadow d) = shadow-entries place d (d .color)
-value-entries place (G.Brightness x) = refl
-value-entries place (G.Contrast x) = refl
-value-entries place (G.Grayscale x) = refl
-value-entries place (G.HueRotate a) = refl
-value-entries place (G.Invert x) = refl
-value-entries place (G.Opacity x) = refl
-value-entries place (G.Sepia x) = refl
-value-entries place (G.Saturate x) = refl
-value-entries place (G.Url link) = refl
-
-filter-entries : (x : FilterStep) → length (filterRecord x) ≡ 24
-unfolding row filterRecord
-filter-entries (T.Value v p) = value-entries (p .0) v
-filter-entries (T.End p) = refl
-filter-entries (T.NoneWord p) = refl
-filter-entries (T.Refused e p) = refl
+use Rattle.exports.proofs.Entries.{length-entries, filter-entries}
 
 no-room : (b : Bool) → flat (cond b [] []) ≡ []
 unfolding flat

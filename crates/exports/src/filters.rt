@@ -1,121 +1,97 @@
 // The record of a step of a list of filter values.
 ghost use mathlib.Core.Path.{_≡_};
-ghost use mathlib.Core.List.{[], _∷_};
-ghost use Rattle.exports.specs.Records.{foundRow, bitsOf, angleUnit, lengthEntries, shadowEntries, shadowRow, filterRow, filterRecord};
+ghost use mathlib.Core.List.{_∷_};
+ghost use Prim.Native.Nat.{_+_, _≤_};
+ghost use lib.ListN.{length};
+ghost use lib.Seq.{paste};
+ghost use Rattle.exports.specs.Records.{lengthEntries, colorEntries, shadowRow, filterRow, filterRecord};
 use crate::rows;
-use angle::Angle;
+use crate::written;
 use color::Color;
 use filter_functions::FilterStep;
 use filter_functions::FilterValue;
 use filter_functions::Shadow;
 use filter_functions::ShadowColor;
 use length::Length;
-use stream::Part;
 use stream::Place;
 
-fn blur(l: Length, place: Place) -> [u64; 24]
-    ensures { λ r. ⌜ r ≡ foundRow (place .0) (1 ∷ lengthEntries l) ⌝ }
+// A shadow's colour, and that there is one.
+fn with_color(out: &mut [u64], at: usize, c: Color)
+    requires { ⌜ at + 5 ≤ length (now out) ⌝ }
+    ensures { λ _. ⌜ now (out .exit) ≡ paste (now (out .entry)) at (1 ∷ colorEntries c) 5 ⌝ }
+{
+    out[at] = 1;
+    out[at + 1] = c.red as u64;
+    out[at + 2] = c.green as u64;
+    out[at + 3] = c.blue as u64;
+    out[at + 4] = c.alpha as u64;
+}
+
+fn measured(out: &mut [u64], at: usize, l: Length)
+    requires { ⌜ at + 2 ≤ length (now out) ⌝ }
+    ensures { λ _. ⌜ now (out .exit) ≡ paste (now (out .entry)) at (lengthEntries l) 2 ⌝ }
 {
     let unit = l.unit;
-    rows::three(place, 1, rows::bits_of(l.number), rows::length_unit(unit))
+    out[at] = rows::bits_of(l.number);
+    out[at + 1] = rows::length_unit(unit);
 }
 
-fn hue_rotate(a: Angle, place: Place) -> [u64; 24]
-    ensures { λ r. ⌜ r ≡ foundRow (place .0) (6 ∷ bitsOf (a .number) ∷ angleUnit (a .unit) ∷ []) ⌝ }
-{
-    let unit = a.unit;
-    rows::three(place, 6, rows::bits_of(a.number), rows::angle_unit(unit))
-}
-
-// One of the seven functions of one number.
-fn plain(kind: u64, x: f64, place: Place) -> [u64; 24]
-    ensures { λ r. ⌜ r ≡ foundRow (place .0) (kind ∷ bitsOf x ∷ []) ⌝ }
-{
-    rows::two(place, kind, rows::bits_of(x))
-}
-
-fn url(link: Part, place: Place) -> [u64; 24]
-    ensures { λ r. ⌜ r ≡ foundRow (place .0) (11 ∷ link .start .0 ∷ link .len ∷ []) ⌝ }
-{
-    let start = link.start;
-    rows::three(place, 11, start.0 as u64, link.len as u64)
-}
-
-// A shadow with its colour, or with zeros for none.
-fn shadow_with(d: Shadow, colored: u64, c: Color, place: Place) -> [u64; 24]
-    ensures { λ r. ⌜ r ≡ foundRow (place .0) (shadowEntries d colored c) ⌝ }
+fn shadow(out: &mut [u64], k: usize, d: Shadow, place: Place)
+    requires { ⌜ k + 24 ≤ length (now out) ⌝ }
+    ensures { λ _. ⌜ now (out .exit) ≡ paste (now (out .entry)) k (shadowRow (place .0) d (d .color)) 24 ⌝ }
 {
     let dx = d.dx;
-    let dx_unit = dx.unit;
     let dy = d.dy;
-    let dy_unit = dy.unit;
     let deviation = d.deviation;
-    let deviation_unit = deviation.unit;
-    rows::found(
-        0,
-        place,
-        [
-            2,
-            rows::bits_of(dx.number),
-            rows::length_unit(dx_unit),
-            rows::bits_of(dy.number),
-            rows::length_unit(dy_unit),
-            rows::bits_of(deviation.number),
-            rows::length_unit(deviation_unit),
-            colored,
-            c.red as u64,
-            c.green as u64,
-            c.blue as u64,
-            c.alpha as u64,
-        ],
-    )
-}
-
-fn shadow_row(d: Shadow, place: Place) -> [u64; 24]
-    ensures { λ r. ⌜ r ≡ shadowRow (place .0) d (d .color) ⌝ }
-{
     let color = d.color;
+    written::one(out, k, place, 2);
+    measured(out, k + 10, dx);
+    measured(out, k + 12, dy);
+    measured(out, k + 14, deviation);
     match color {
-        ShadowColor::None => shadow_with(
-            d,
-            0,
-            Color {
-                red: 0,
-                green: 0,
-                blue: 0,
-                alpha: 0,
-            },
-            place,
-        ),
-        ShadowColor::Some(c) => shadow_with(d, 1, c, place),
+        ShadowColor::None => {}
+        ShadowColor::Some(c) => with_color(out, k + 16, c),
     }
 }
 
-fn filter_row(value: FilterValue, place: Place) -> [u64; 24]
-    ensures { λ r. ⌜ r ≡ filterRow (place .0) value ⌝ }
+fn write_value(out: &mut [u64], k: usize, value: FilterValue, place: Place)
+    requires { ⌜ k + 24 ≤ length (now out) ⌝ }
+    ensures { λ _. ⌜ now (out .exit) ≡ paste (now (out .entry)) k (filterRow (place .0) value) 24 ⌝ }
 {
     match value {
-        FilterValue::Blur(l) => blur(l, place),
-        FilterValue::DropShadow(d) => shadow_row(d, place),
-        FilterValue::Brightness(x) => plain(3, x, place),
-        FilterValue::Contrast(x) => plain(4, x, place),
-        FilterValue::Grayscale(x) => plain(5, x, place),
-        FilterValue::HueRotate(a) => hue_rotate(a, place),
-        FilterValue::Invert(x) => plain(7, x, place),
-        FilterValue::Opacity(x) => plain(8, x, place),
-        FilterValue::Sepia(x) => plain(9, x, place),
-        FilterValue::Saturate(x) => plain(10, x, place),
-        FilterValue::Url(link) => url(link, place),
+        FilterValue::Blur(l) => {
+            let unit = l.unit;
+            let bits = rows::bits_of(l.number);
+            written::three(out, k, place, 1, bits, rows::length_unit(unit));
+        }
+        FilterValue::DropShadow(d) => shadow(out, k, d, place),
+        FilterValue::Brightness(x) => written::two(out, k, place, 3, rows::bits_of(x)),
+        FilterValue::Contrast(x) => written::two(out, k, place, 4, rows::bits_of(x)),
+        FilterValue::Grayscale(x) => written::two(out, k, place, 5, rows::bits_of(x)),
+        FilterValue::HueRotate(a) => {
+            let unit = a.unit;
+            let bits = rows::bits_of(a.number);
+            written::three(out, k, place, 6, bits, rows::angle_unit(unit));
+        }
+        FilterValue::Invert(x) => written::two(out, k, place, 7, rows::bits_of(x)),
+        FilterValue::Opacity(x) => written::two(out, k, place, 8, rows::bits_of(x)),
+        FilterValue::Sepia(x) => written::two(out, k, place, 9, rows::bits_of(x)),
+        FilterValue::Saturate(x) => written::two(out, k, place, 10, rows::bits_of(x)),
+        FilterValue::Url(link) => {
+            let start = link.start;
+            written::three(out, k, place, 11, start.0 as u64, link.len as u64);
+        }
     }
 }
 
-pub fn filter_record(step: FilterStep) -> [u64; 24]
-    ensures { λ r. ⌜ r ≡ filterRecord step ⌝ }
+pub fn write_filter(out: &mut [u64], k: usize, step: FilterStep)
+    requires { ⌜ k + 24 ≤ length (now out) ⌝ }
+    ensures { λ _. ⌜ now (out .exit) ≡ paste (now (out .entry)) k (filterRecord step) 24 ⌝ }
 {
     match step {
-        FilterStep::Refused(e, place) => rows::refused(e, 3, place),
-        FilterStep::End(place) => rows::ended(1, place),
-        FilterStep::NoneWord(place) => rows::ended(2, place),
-        FilterStep::Value(value, place) => filter_row(value, place),
+        FilterStep::Refused(e, place) => written::refused(out, k, e, place),
+        FilterStep::End(place) => written::ended(out, k, 1, place),
+        FilterStep::NoneWord(place) => written::ended(out, k, 2, place),
+        FilterStep::Value(value, place) => write_value(out, k, value, place),
     }
 }

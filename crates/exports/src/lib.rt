@@ -10,9 +10,11 @@ ghost use Rattle.length.specs.Lengths as lengths;
 ghost use Rattle.paint.specs.Answers as paints;
 
 mod filters;
+mod lengths;
 mod many;
 mod records;
 mod rows;
+mod written;
 
 #[no_mangle]
 pub extern "C" fn homeludaf_color(text: &[u8], answer: &mut [u64; 24])

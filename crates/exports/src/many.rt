@@ -1,8 +1,5 @@
 // Many steps of a list at once. The text is admitted once; from then on a list place costs the test of one byte.
 ghost use mathlib.Core.Path.{_≡_};
-ghost use Prim.Native.Nat.{_+_, _≤_};
-ghost use lib.ListN.{length};
-ghost use lib.Seq.{paste};
 ghost use Rattle.stream.specs.Characters.{utf8Of, onCharacter};
 ghost use Rattle.stream.specs.Refusals.{admitText, admitPlace};
 ghost use Rattle.stream.specs.declared.Utf8.the-variants as Utf8;
@@ -10,7 +7,7 @@ ghost use Rattle.filter_functions.specs.Filters.{nextFilter};
 ghost use Rattle.length.specs.Lengths.{nextLength};
 ghost use Rattle.exports.specs.Many.{fitting, filled, toldOf, filterAt, lengthAt};
 use crate::filters;
-use crate::records;
+use crate::lengths;
 use crate::rows;
 use filter_functions::FilterStep;
 use filter_functions::StepRead;
@@ -18,37 +15,6 @@ use length::LengthRead;
 use length::LengthStep;
 use stream::Admission;
 use stream::Place;
-
-// A record, written at `at`: entry by entry, since a loop is compiled to a copy of memory, which waits until the whole record is stored.
-fn put(out: &mut [u64], at: usize, r: [u64; 24])
-    requires { ⌜ at + 24 ≤ length (now out) ⌝ }
-    ensures { λ _. ⌜ now (out .exit) ≡ paste (now (out .entry)) at r 24 ⌝ }
-{
-    out[at] = r[0];
-    out[at + 1] = r[1];
-    out[at + 2] = r[2];
-    out[at + 3] = r[3];
-    out[at + 4] = r[4];
-    out[at + 5] = r[5];
-    out[at + 6] = r[6];
-    out[at + 7] = r[7];
-    out[at + 8] = r[8];
-    out[at + 9] = r[9];
-    out[at + 10] = r[10];
-    out[at + 11] = r[11];
-    out[at + 12] = r[12];
-    out[at + 13] = r[13];
-    out[at + 14] = r[14];
-    out[at + 15] = r[15];
-    out[at + 16] = r[16];
-    out[at + 17] = r[17];
-    out[at + 18] = r[18];
-    out[at + 19] = r[19];
-    out[at + 20] = r[20];
-    out[at + 21] = r[21];
-    out[at + 22] = r[22];
-    out[at + 23] = r[23];
-}
 
 // Whether a UTF-8 text has a character's first byte, or its end, at a place.
 fn on_character(text: &[u8], place: Place) -> bool
@@ -132,11 +98,11 @@ pub fn filter_steps(text: &[u8], place: usize, answers: &mut [u64], told: &mut [
     let mut n = 0;
     let mut at = place;
     while n < room {
-        let r = filters::filter_record(filter_step(text, admission, Place(at)));
-        put(answers, n * 24, r);
+        let k = n * 24;
+        filters::write_filter(answers, k, filter_step(text, admission, Place(at)));
         n += 1;
-        at = r[8] as usize;
-        if r[7] != 0 {
+        at = answers[k + 8] as usize;
+        if answers[k + 7] != 0 {
             *told = [n as u64, at as u64];
             return;
         }
@@ -153,11 +119,11 @@ pub fn length_steps(text: &[u8], place: usize, answers: &mut [u64], told: &mut [
     let mut n = 0;
     let mut at = place;
     while n < room {
-        let r = records::length_step_record(length_step(text, admission, Place(at)));
-        put(answers, n * 24, r);
+        let k = n * 24;
+        lengths::write_length(answers, k, length_step(text, admission, Place(at)));
         n += 1;
-        at = r[8] as usize;
-        if r[7] != 0 {
+        at = answers[k + 8] as usize;
+        if answers[k + 7] != 0 {
             *told = [n as u64, at as u64];
             return;
         }

@@ -1,6 +1,6 @@
-// The record of each answer but a filter's.
+// The record of each answer but a list's step.
 ghost use mathlib.Core.Path.{_≡_};
-ghost use Rattle.exports.specs.Records.{foundRow, lengthEntries, colorRecord, lengthRecord, lengthStepRecord, angleRecord, linkRecord, linkPaint, paintRow, paintRecord, whoseNumber, inheritedRecord};
+ghost use Rattle.exports.specs.Records.{foundRow, lengthEntries, colorRecord, lengthRecord, angleRecord, linkRecord, linkPaint, paintRow, paintRecord, whoseNumber, inheritedRecord};
 use crate::rows;
 use angle::AngleAnswer;
 use color::Color;
@@ -8,7 +8,6 @@ use color::ColorAnswer;
 use funciri::LinkAnswer;
 use length::Length;
 use length::LengthAnswer;
-use length::LengthStep;
 use paint::Inheritance;
 use paint::Paint;
 use paint::PaintAnswer;
@@ -56,16 +55,6 @@ pub fn length_record(answer: LengthAnswer) -> [u64; 24]
     match answer {
         LengthAnswer::Refused(e) => rows::refused(e, 0, Place(0)),
         LengthAnswer::Value(l) => measured(l, Place(0)),
-    }
-}
-
-pub fn length_step_record(step: LengthStep) -> [u64; 24]
-    ensures { λ r. ⌜ r ≡ lengthStepRecord step ⌝ }
-{
-    match step {
-        LengthStep::Refused(e, place) => rows::refused(e, 3, place),
-        LengthStep::End(place) => rows::ended(1, place),
-        LengthStep::Value(l, place) => measured(l, place),
     }
 }
 

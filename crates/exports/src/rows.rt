@@ -1,7 +1,7 @@
 // The layout of a record, and the numbers that stand in it.
 ghost use mathlib.Core.Path.{_≡_};
 ghost use mathlib.Core.List.{[], _∷_};
-ghost use Rattle.exports.specs.Records.{row, foundRow, endRow, bitsOf, lengthUnit, angleUnit, paintEntries};
+ghost use Rattle.exports.specs.Records.{row, foundRow, bitsOf, lengthUnit, angleUnit, paintEntries};
 ghost use Rattle.stream.specs.Refusals.{bareRefusal};
 use angle::AngleUnit;
 use color::Color;
@@ -70,17 +70,11 @@ pub fn bare(number: u8) -> Refusal
     }
 }
 
-// A result, or the end of a list, which has none.
+// A result, with a list's state and place.
 pub fn found(state: u64, place: Place, v: [u64; 12]) -> [u64; 24]
     ensures { λ r. ⌜ r ≡ row (bareRefusal 0) state (place .0) v ⌝ }
 {
     whole(bare(0), state, place, v)
-}
-
-pub fn ended(state: u64, place: Place) -> [u64; 24]
-    ensures { λ r. ⌜ r ≡ endRow state (place .0) ⌝ }
-{
-    found(state, place, [0; 12])
 }
 
 // The bits of a float. No number that is read is a NaN, whose bits the language does not give.

@@ -1,7 +1,9 @@
-use Prim.Native.Nat.{_-_}
-use borrow.Author.Needs.{needs}
+use Prim.Native.Nat.{_-_, _*_}
+use Rattle.exports.proofs.Entries.{filter-entries}
+use Rattle.exports.proofs.Going.{Going, going-start, going-full, going-same, going-on, going-stop, filter-at}
 use Rattle.exports.specs.Many.{filterAt}
-use Rattle.exports.proofs.Going.{Going, going, going-full, going-stop}
+use Rattle.filter_functions.specs.Filters.{nextFilter}
+use borrow.Author.Needs.{needs}
 use Rattle.exports.proofs.many.filter_steps.Statement.{statement}
 use Rattle.exports.proofs.many.filter_steps.Tie as tie
 
@@ -18,17 +20,20 @@ filter-steps-spec =
     Inv-loop
     μ-loop
     (λ c κs. search needs)
-    (λ c. search (going, needs))
-    (λ c κs. search needs)
-    (λ c κs. search needs)
+    (λ c. search (going-start, needs))
     (λ c. search needs)
     (λ c κs. search needs)
+    (λ c κs. search needs)
     (λ c. search needs)
     (λ c. search needs)
     (λ c. search needs)
-    (λ c. search (going, needs) depth 10)
-    (λ c. going-stop (c .before .before .before .before .before .before .before .before .before .loop .inv) (c .before .before .before .before .before .before .filter-record .result) (search needs) (search needs) (search (going, needs)) (search needs) (search needs))
     (λ c. search needs)
-    (λ c. search (going, needs) depth 10)
-    (λ c. search (going, needs) depth 10)
+    (λ c. search needs)
+    (λ c. search needs)
+    (λ c. search needs)
+    (λ c. let s = c .before .before .before .before .before .before .before .before .before .before .before .before .before .before .args .text .now in let l = c .before .before .before .before .before .before .before .before .before .before .loop in going-same (l .inv) (filter-at s (l .at) (l .answers) (l .n * 24) (c .before .before .before .before .before .before .write-filter .ensures) (c .before .before .before .before .before .before .before .filter-step .ensures)) (search needs) (filter-entries (nextFilter s (l .at))))
+    (λ c. let s = c .before .before .before .before .before .before .before .before .before .before .before .before .before .before .args .text .now in let l = c .before .before .before .before .before .before .before .before .before .before .loop in going-stop (l .inv) (filter-at s (l .at) (l .answers) (l .n * 24) (c .before .before .before .before .before .before .write-filter .ensures) (c .before .before .before .before .before .before .before .filter-step .ensures)) (search needs) (filter-entries (nextFilter s (l .at))) (search needs))
+    (λ c. search needs)
+    (λ c. let s = c .before .before .before .before .before .before .before .before .before .before .before .before .before .args .text .now in let l = c .before .before .before .before .before .before .before .before .before .loop in going-on (l .inv) (filter-at s (l .at) (l .answers) (l .n * 24) (c .before .before .before .before .before .write-filter .ensures) (c .before .before .before .before .before .before .filter-step .ensures)) (search needs) (filter-entries (nextFilter s (l .at))) (search needs))
+    (λ c. search needs)
     (λ c. going-full (c .before .before .loop .inv) (search needs)))

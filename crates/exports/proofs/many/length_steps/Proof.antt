@@ -1,7 +1,9 @@
-use Prim.Native.Nat.{_-_}
-use borrow.Author.Needs.{needs}
+use Prim.Native.Nat.{_-_, _*_}
+use Rattle.exports.proofs.Entries.{length-entries}
+use Rattle.exports.proofs.Going.{Going, going-start, going-full, going-same, going-on, going-stop, length-at}
 use Rattle.exports.specs.Many.{lengthAt}
-use Rattle.exports.proofs.Going.{Going, going, going-full, going-stop}
+use Rattle.length.specs.Lengths.{nextLength}
+use borrow.Author.Needs.{needs}
 use Rattle.exports.proofs.many.length_steps.Statement.{statement}
 use Rattle.exports.proofs.many.length_steps.Tie as tie
 
@@ -18,17 +20,20 @@ length-steps-spec =
     Inv-loop
     μ-loop
     (λ c κs. search needs)
-    (λ c. search (going, needs))
-    (λ c κs. search needs)
-    (λ c κs. search needs)
+    (λ c. search (going-start, needs))
     (λ c. search needs)
     (λ c κs. search needs)
+    (λ c κs. search needs)
     (λ c. search needs)
     (λ c. search needs)
     (λ c. search needs)
-    (λ c. search (going, needs) depth 10)
-    (λ c. going-stop (c .before .before .before .before .before .before .before .before .before .loop .inv) (c .before .before .before .before .before .before .length-step-record .result) (search needs) (search needs) (search (going, needs)) (search needs) (search needs))
     (λ c. search needs)
-    (λ c. search (going, needs) depth 10)
-    (λ c. search (going, needs) depth 10)
+    (λ c. search needs)
+    (λ c. search needs)
+    (λ c. search needs)
+    (λ c. let s = c .before .before .before .before .before .before .before .before .before .before .before .before .before .before .args .text .now in let l = c .before .before .before .before .before .before .before .before .before .before .loop in going-same (l .inv) (length-at s (l .at) (l .answers) (l .n * 24) (c .before .before .before .before .before .before .write-length .ensures) (c .before .before .before .before .before .before .before .length-step .ensures)) (search needs) (length-entries (nextLength s (l .at))))
+    (λ c. let s = c .before .before .before .before .before .before .before .before .before .before .before .before .before .before .args .text .now in let l = c .before .before .before .before .before .before .before .before .before .before .loop in going-stop (l .inv) (length-at s (l .at) (l .answers) (l .n * 24) (c .before .before .before .before .before .before .write-length .ensures) (c .before .before .before .before .before .before .before .length-step .ensures)) (search needs) (length-entries (nextLength s (l .at))) (search needs))
+    (λ c. search needs)
+    (λ c. let s = c .before .before .before .before .before .before .before .before .before .before .before .before .before .args .text .now in let l = c .before .before .before .before .before .before .before .before .before .loop in going-on (l .inv) (length-at s (l .at) (l .answers) (l .n * 24) (c .before .before .before .before .before .write-length .ensures) (c .before .before .before .before .before .before .length-step .ensures)) (search needs) (length-entries (nextLength s (l .at))) (search needs))
+    (λ c. search needs)
     (λ c. going-full (c .before .before .loop .inv) (search needs)))

@@ -1,0 +1,85 @@
+// The record of a list's step, written straight into the entries that are lent, case by case.
+// Built beside them and then copied, all of its values would be live at one place, and most would be spilled there.
+ghost use mathlib.Core.Path.{_≡_};
+ghost use mathlib.Core.List.{[], _∷_};
+ghost use Prim.Native.Nat.{_+_, _≤_};
+ghost use lib.ListN.{length};
+ghost use lib.Seq.{paste};
+ghost use Rattle.exports.specs.Records.{row, foundRow, endRow};
+use stream::Place;
+use stream::Refusal;
+
+// A third of a record. Entry by entry, since a loop is compiled to a call that fills or copies memory.
+fn eight(out: &mut [u64], at: usize, a: u64, b: u64, c: u64, d: u64, e: u64, f: u64, g: u64, h: u64)
+    requires { ⌜ at + 8 ≤ length (now out) ⌝ }
+    ensures { λ _. ⌜ now (out .exit) ≡ paste (now (out .entry)) at (a ∷ b ∷ c ∷ d ∷ e ∷ f ∷ g ∷ h ∷ []) 8 ⌝ }
+{
+    out[at] = a;
+    out[at + 1] = b;
+    out[at + 2] = c;
+    out[at + 3] = d;
+    out[at + 4] = e;
+    out[at + 5] = f;
+    out[at + 6] = g;
+    out[at + 7] = h;
+}
+
+// A list's refusal.
+pub fn refused(out: &mut [u64], k: usize, e: Refusal, place: Place)
+    requires { ⌜ k + 24 ≤ length (now out) ⌝ }
+    ensures { λ _. ⌜ now (out .exit) ≡ paste (now (out .entry)) k (row e 3 (place .0) []) 24 ⌝ }
+{
+    let position = e.position;
+    let at = e.place;
+    let part = e.part;
+    let start = part.start;
+    eight(
+        out,
+        k,
+        e.number as u64,
+        position.0 as u64,
+        at.0 as u64,
+        e.found as u64,
+        e.wanted as u64,
+        start.0 as u64,
+        part.len as u64,
+        3,
+    );
+    eight(out, k + 8, place.0 as u64, 0, 0, 0, 0, 0, 0, 0);
+    eight(out, k + 16, 0, 0, 0, 0, 0, 0, 0, 0);
+}
+
+// A result of one number, two or three.
+pub fn one(out: &mut [u64], k: usize, place: Place, a: u64)
+    requires { ⌜ k + 24 ≤ length (now out) ⌝ }
+    ensures { λ _. ⌜ now (out .exit) ≡ paste (now (out .entry)) k (foundRow (place .0) (a ∷ [])) 24 ⌝ }
+{
+    eight(out, k, 0, 0, 0, 0, 0, 0, 0, 0);
+    eight(out, k + 8, place.0 as u64, a, 0, 0, 0, 0, 0, 0);
+    eight(out, k + 16, 0, 0, 0, 0, 0, 0, 0, 0);
+}
+
+pub fn two(out: &mut [u64], k: usize, place: Place, a: u64, b: u64)
+    requires { ⌜ k + 24 ≤ length (now out) ⌝ }
+    ensures { λ _. ⌜ now (out .exit) ≡ paste (now (out .entry)) k (foundRow (place .0) (a ∷ b ∷ [])) 24 ⌝ }
+{
+    one(out, k, place, a);
+    out[k + 10] = b;
+}
+
+pub fn three(out: &mut [u64], k: usize, place: Place, a: u64, b: u64, c: u64)
+    requires { ⌜ k + 24 ≤ length (now out) ⌝ }
+    ensures { λ _. ⌜ now (out .exit) ≡ paste (now (out .entry)) k (foundRow (place .0) (a ∷ b ∷ c ∷ [])) 24 ⌝ }
+{
+    two(out, k, place, a, b);
+    out[k + 11] = c;
+}
+
+// The end of a list, which has no result.
+pub fn ended(out: &mut [u64], k: usize, state: u64, place: Place)
+    requires { ⌜ k + 24 ≤ length (now out) ⌝ }
+    ensures { λ _. ⌜ now (out .exit) ≡ paste (now (out .entry)) k (endRow state (place .0)) 24 ⌝ }
+{
+    one(out, k, place, 0);
+    out[k + 7] = state;
+}
