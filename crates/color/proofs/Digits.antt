@@ -74,11 +74,11 @@ module _ (b : ℕ) where
       go false false true e = let z : _≡_ {A = ℕ} 0 1 = cc in absurd (omega arith)
       go false false false e = refl
 
-  pub digit-none : isHexDigit b ≡ false → 16 ≡ hexDigit b
+  pub digit-none : false ≡ within 48 57 b → false ≡ within 97 102 b → false ≡ within 65 70 b → 16 ≡ hexDigit b
   unfolding hexDigit
-  digit-none e = simp e
+  digit-none e f g = simp (← e, ← f, ← g)
 
-pub ruleset valued = (value-none, digit-none, other-low, other-58, other-71, other-103)
+pub ruleset valued = (value-none, other-low, other-58, other-71, other-103)
 
 -- the bytes that are digits, and their values
 module _ (b : ℕ) (e : isHexDigit b ≡ true) where

@@ -1,7 +1,9 @@
 // Colours: hex digits, `rgb` and `hsl` with their brackets, and names.
+ghost use mathlib.Core.Bool.{false};
 ghost use mathlib.Core.Path.{_≡_};
 ghost use Prim.Native.Nat.{_+_, _≤_};
 ghost use lib.ListN.{length};
+ghost use Rattle.stream.specs.Bytes.{within};
 ghost use Rattle.color.specs.Hex.{fromHex, shortHex, hexPair, shortColor, longColor, parseHex};
 ghost use Rattle.color.specs.Flat.{hexDigit, sixDigits, threeDigits, hexAlone};
 ghost use Rattle.color.specs.Hsl.{hueToRgb, hslToRgb, hslColor};
@@ -396,7 +398,27 @@ fn hex_digit(c: u8) -> u8
 {
     match c {
         b'0'..=b'9' => c - b'0',
+        _ => hex_letter(c),
+    }
+}
+
+// One range in each function: of several in one `match` each costs two comparisons.
+fn hex_letter(c: u8) -> u8
+    requires { ⌜ false ≡ within 48 57 c ⌝ }
+    ensures { λ r. ⌜ r ≡ hexDigit c ⌝ }
+{
+    match c {
         b'a'..=b'f' => c - b'a' + 10,
+        _ => hex_capital(c),
+    }
+}
+
+fn hex_capital(c: u8) -> u8
+    requires { ⌜ false ≡ within 48 57 c ⌝ }
+    requires { ⌜ false ≡ within 97 102 c ⌝ }
+    ensures { λ r. ⌜ r ≡ hexDigit c ⌝ }
+{
+    match c {
         b'A'..=b'F' => c - b'A' + 10,
         _ => 16,
     }

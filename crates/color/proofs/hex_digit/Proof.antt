@@ -1,5 +1,7 @@
+use mathlib.Core.Logic.{⊎-elim}
 use native.Mathlib.Omega.{arith}
-use Rattle.color.proofs.Digits.{digit-capital, digit-numeral, digit-small, valued}
+use Rattle.stream.proofs.Ranges.{ranged}
+use Rattle.color.proofs.Digits.{digit-numeral}
 use borrow.Author.Needs.{needs}
 use Rattle.color.proofs.hex_digit.Statement.{statement}
 use Rattle.color.proofs.hex_digit.Tie as tie
@@ -8,12 +10,6 @@ pub hex-digit-spec : {M : Type 1} → statement M
 hex-digit-spec =
     tie.close
     (tie.spec
-    (λ c. search needs)
-    (λ c. search needs)
+    (λ c κs. ⊎-elim (λ w. search (ranged, needs)) (λ w. search (ranged, needs)) (c .if1 .came))
     (λ c. digit-numeral _ (omega arith) (omega arith))
-    (λ c. digit-capital _ (omega arith) (omega arith))
-    (λ c. digit-small _ (omega arith) (omega arith))
-    (λ c. search (valued, needs))
-    (λ c. search (valued, needs))
-    (λ c. search (valued, needs))
-    (λ c. search (valued, needs)))
+    (λ c. search needs))
