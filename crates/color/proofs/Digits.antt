@@ -10,7 +10,7 @@ use lib.Dec.{T, eqb, leb, ltb, eqb→eq, leb→le}
 use lib.ListN.{length}
 use Rattle.stream.specs.Bytes.{within, isHexDigit}
 use Rattle.stream.specs.Scan.{scan}
-use Rattle.stream.proofs.Ranges.{allFrom, across, within-high, lt-or-le}
+use Rattle.stream.proofs.Ranges.{allFrom, across, within-high, le-or-lt, lt-or-le}
 use Rattle.stream.proofs.Scans.{scan-le, scan-ge}
 use Rattle.names.proofs.Tables.{holds-true}
 use Rattle.color.specs.Hex.{fromHex}
@@ -87,6 +87,12 @@ module _ (b : ℕ) (e : isHexDigit b ≡ true) where
       ⊎-elim (λ (h : b < 103). h)
       (λ (h : 103 ≤ b). let f : false ≡ true = sym (other-103 b h) ∙ e in let z : _≡_ {A = ℕ} 0 1 = cc in absurd (omega arith))
       (lt-or-le b 103)
+
+  pub hex-low : 48 ≤ b
+  hex-low =
+      ⊎-elim (λ (h : 48 ≤ b). h)
+      (λ (h : b < 48). let f : false ≡ true = sym (other-low b h) ∙ e in let z : _≡_ {A = ℕ} 0 1 = cc in absurd (omega arith))
+      (le-or-lt 48 b)
 
   pub value-high : fromHex b < 16
   unfolding fromHex within

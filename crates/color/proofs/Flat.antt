@@ -214,6 +214,14 @@ unfolding isAscii
 ascii-all [] f = refl
 ascii-all (x ∷ xs) f = simp (lt-ltb x 128 (f 0 (omega arith)), ascii-all xs (λ j h. f (suc j) (omega arith)))
 
+-- what a text is that is `#` and the digits of c: it may be read, no white space is at its ends, and it reads as c
+pub record Alone (s : List ℕ) (c : Color) : Type 0 where
+  pub some : 0 < length s
+  pub admit : admitText s ≡ Admitted
+  pub first : getD s 0 0 ≡ 35
+  pub last : isHexDigit (getD s (length s - 1) 0) ≡ true
+  pub read : parseColorText s ≡ C.Value c (place (length s))
+
 -- a text that is `#` and digits, as many as the try found
 module _ (s : List ℕ) (hash : getD s 0 0 ≡ 35) (some : 0 < length s) (all : scan isHexDigit s 1 ≡ length s) where
   alone-ascii : isAscii s ≡ true
@@ -223,33 +231,44 @@ module _ (s : List ℕ) (hash : getD s 0 0 ≡ 35) (some : 0 < length s) (all : 
       byte zero h = omega (arith, hash)
       byte (suc j) h = omega (arith, hex-high (getD s (suc j) 0) (scan-bytes isHexDigit s 1 (suc j) (omega arith) (omega (arith, all))))
 
-  alone-read : {c : Color} → length s ≤ 4096 → parseHex s 1 ≡ C.Value c (place (length s)) → A.Value c ≡ fromStr s
-  unfolding fromStr parseColorText parseColor bind
-  alone-read {c} h p =
-      let a : admitText s ≡ Admitted = sym (admit-good s h (ascii-utf8 s (sym alone-ascii) refl) refl) in
+  alone-text : {c : Color} → length s ≤ 4096 → 1 < length s → parseHex s 1 ≡ C.Value c (place (length s)) → Alone s c
+  unfolding parseColorText parseColor bind
+  alone-text {c} h more p =
       let q : false ≡ isSpace (getD s 0 0) = rw hash refl in
       let b : scan isSpace s 0 ≡ 0 = sym (scan-stop {r = false} (scan-start isSpace s 0) q refl some) in
       let d : leb (length s) 0 ≡ false = lt-leb (length s) 0 some in
       let e : scan isSpace s (length s) ≡ length s = sym (scan-end (scan-start isSpace s (length s)) (omega arith)) in
       let l : ltb (length s) (length s) ≡ false = le-ltb (length s) (length s) (omega arith) in
-      simp (a, b, d, hash, p, e, l)
+      record {
+        some = some;
+        admit = sym (admit-good s h (ascii-utf8 s (sym alone-ascii) refl) refl);
+        first = hash;
+        last = scan-bytes isHexDigit s 1 (length s - 1) (omega arith) (omega (arith, all));
+        read = simp (b, d, hash, p, e, l);
+      }
 
 -- n digits, whose colour is d
-module _ (s : List ℕ) {c d : Color} (n : ℕ) (h : length s ≡ 1 + n) (small : 1 + n ≤ 4096) (read : scan isHexDigit s 1 ≡ 1 + n → parseHex s 1 ≡ C.Value d (place (1 + n))) where
-  alone-digits : H.Digits c ≡ cond (eqb (getD s 0 0) 35) (cond (leb (1 + n) (scan isHexDigit s 1)) (H.Digits d) H.Other) H.Other → A.Value c ≡ fromStr s
+module _ (s : List ℕ) {c d : Color} (n : ℕ) (h : length s ≡ 1 + n) (small : 1 + n ≤ 4096) (more : 0 < n) (read : scan isHexDigit s 1 ≡ 1 + n → parseHex s 1 ≡ C.Value d (place (1 + n))) where
+  alone-digits : H.Digits c ≡ cond (eqb (getD s 0 0) 35) (cond (leb (1 + n) (scan isHexDigit s 1)) (H.Digits d) H.Other) H.Other → Alone s c
   alone-digits x =
       let p = digits-if (eqb (getD s 0 0) 35) (cond (leb (1 + n) (scan isHexDigit s 1)) (H.Digits d) H.Other) x in
       let q = digits-if (leb (1 + n) (scan isHexDigit s 1)) (H.Digits d) (p .1) in
       let k : scan isHexDigit s 1 ≡ 1 + n = omega (arith, leb-true (1 + n) (scan isHexDigit s 1) (q .0), scan-le isHexDigit s 1 (omega arith)) in
       let e : H.Digits c ≡ H.Digits d = q .1 in
       let f : c ≡ d = cc in
-      alone-read s (eqb-true (getD s 0 0) 35 (p .0)) (omega arith) (k ∙ sym h) (omega arith) (rw (f, h) (read k))
+      alone-text s (eqb-true (getD s 0 0) 35 (p .0)) (omega arith) (k ∙ sym h) (omega arith) (omega arith) (rw (f, h) (read k))
 
--- digits that are the whole text are its answer: r is what the try answered
-pub alone-is : (s : List ℕ) {c : Color} {r : HexTry} → r ≡ hexAlone s → r ≡ H.Digits c → A.Value c ≡ fromStr s
-unfolding hexAlone sixDigits threeDigits
-alone-is s {c} {r} q e =
-    let x = sym e ∙ q in
-    either (eqb (length s) 7) (λ f. alone-digits s 6 (eqb-true (length s) 7 f) (omega arith) (long-read s 1) (simp f at x))
-    (λ f. either (eqb (length s) 4) (λ g. alone-digits s 3 (eqb-true (length s) 4 g) (omega arith) (short-read s 1) (simp (f, g) at x))
-    (λ g. let v : H.Digits c ≡ H.Other = simp (f, g) at x in let z : _≡_ {A = ℕ} 0 1 = cc in absurd (omega arith)))
+-- digits that are the whole text: r is what the try answered
+module _ (s : List ℕ) {c : Color} {r : HexTry} (q : r ≡ hexAlone s) (e : r ≡ H.Digits c) where
+  pub alone : Alone s c
+  unfolding hexAlone sixDigits threeDigits
+  alone =
+      let x = sym e ∙ q in
+      either (eqb (length s) 7) (λ f. alone-digits s 6 (eqb-true (length s) 7 f) (omega arith) (omega arith) (long-read s 1) (simp f at x))
+      (λ f. either (eqb (length s) 4) (λ g. alone-digits s 3 (eqb-true (length s) 4 g) (omega arith) (omega arith) (short-read s 1) (simp (f, g) at x))
+      (λ g. let v : H.Digits c ≡ H.Other = simp (f, g) at x in let z : _≡_ {A = ℕ} 0 1 = cc in absurd (omega arith)))
+
+  -- they are its answer
+  pub alone-is : A.Value c ≡ fromStr s
+  unfolding fromStr
+  alone-is = simp (alone .admit, alone .read)

@@ -36,7 +36,7 @@ pub enum ColorAnswer {
 }
 
 // What a try at hex digits found: their colour, or that the general path must tell.
-enum HexTry {
+pub enum HexTry {
     Digits(Color),
     Other,
 }
@@ -45,11 +45,13 @@ enum HexTry {
 pub fn from_str(text: &[u8]) -> ColorAnswer
     ensures { λ r. ⌜ r ≡ fromStr (now (text .entry)) ⌝ }
 {
-    match hex_alone(text) {
-        HexTry::Digits(color) => {
-            return ColorAnswer::Value(color);
+    if stream::is_curr_byte_eq(text, Place(0), b'#') {
+        match hex_alone(text) {
+            HexTry::Digits(color) => {
+                return ColorAnswer::Value(color);
+            }
+            HexTry::Other => {}
         }
-        HexTry::Other => {}
     }
     match stream::admit_text(text) {
         Admission::Refused(refusal) => ColorAnswer::Refused(refusal),
@@ -61,7 +63,7 @@ pub fn from_str(text: &[u8]) -> ColorAnswer
 }
 
 // A text that is `#` and six or three digits: all ASCII, so it needs no test of UTF-8.
-fn hex_alone(text: &[u8]) -> HexTry
+pub fn hex_alone(text: &[u8]) -> HexTry
     ensures { λ r. ⌜ r ≡ hexAlone (now (text .entry)) ⌝ }
 {
     if text.len() == 7 {

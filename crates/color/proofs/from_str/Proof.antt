@@ -11,6 +11,7 @@ from-str-spec =
     tie.close
     (tie.spec
     (λ c κs. search needs)
+    (λ c κs. search needs)
     (λ c. search needs)
     (λ c. search (alone-is, needs))
     (λ c. search needs)
