@@ -1,4 +1,5 @@
 pub mod Bases
+pub mod Flat
 pub mod Inside
 pub mod Steps
 pub mod Worked

@@ -9,6 +9,7 @@ ghost use Rattle.paint.specs.Reading.{parseFallback, parseLinked, parseP
 ghost use Rattle.paint.specs.Answers.{isInherit, fromStr, inheritedOf, inheritedPart};
 use color::Color;
 use color::ColorRead;
+use color::HexTry;
 use funciri::LinkRead;
 use stream::Admission;
 use stream::Fault;
@@ -119,6 +120,9 @@ pub fn parse_paint(text: &[u8]) -> PaintRead
     requires { ⌜ length (now text) ≤ 4096 ⌝ }
     ensures { λ r. ⌜ r ≡ parsePaint (now (text .entry)) ⌝ }
 {
+    if stream::begins(text, b"url(") {
+        return parse_linked(text);
+    }
     if stream::equals(text, b"none") {
         return PaintRead::Value(Paint::None);
     }
@@ -133,9 +137,6 @@ pub fn parse_paint(text: &[u8]) -> PaintRead
     }
     if stream::equals(text, b"context-stroke") {
         return PaintRead::Value(Paint::ContextStroke);
-    }
-    if stream::begins(text, b"url(") {
-        return parse_linked(text);
     }
     parse_plain(text)
 }
@@ -173,8 +174,8 @@ fn trim_anew(text: &[u8]) -> Part
     stream::trim(&text[0..])
 }
 
-// A paint as a whole text.
-pub fn from_str(text: &[u8]) -> PaintAnswer
+// A paint as a whole text, by what holds of any text.
+fn from_any(text: &[u8]) -> PaintAnswer
     ensures { λ r. ⌜ r ≡ fromStr (now (text .entry)) ⌝ }
 {
     match stream::admit_text(text) {
@@ -195,6 +196,24 @@ pub fn from_str(text: &[u8]) -> PaintAnswer
             }
         }
     }
+}
+
+// A paint as a whole text. `none` and hex digits are ASCII with nothing to trim, so they are answered at once.
+pub fn from_str(text: &[u8]) -> PaintAnswer
+    ensures { λ r. ⌜ r ≡ fromStr (now (text .entry)) ⌝ }
+{
+    if stream::equals(text, b"none") {
+        return PaintAnswer::Value(Paint::None);
+    }
+    if stream::is_curr_byte_eq(text, Place(0), b'#') {
+        match color::hex_alone(text) {
+            HexTry::Digits(color) => {
+                return PaintAnswer::Value(Paint::Color(color));
+            }
+            HexTry::Other => {}
+        }
+    }
+    from_any(text)
 }
 
 fn is_inherit(paint: Paint) -> bool

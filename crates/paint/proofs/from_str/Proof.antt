@@ -1,8 +1,5 @@
 use borrow.Author.Needs.{needs}
-use Rattle.stream.proofs.Edges.{edges}
-use Rattle.stream.proofs.Flows.{flow}
-use Rattle.paint.specs.Answers.{fromStr}
-use Rattle.paint.proofs.Steps.{cuts, trim-taken, answers}
+use Rattle.paint.proofs.Flat.{none-alone, hex-paint}
 use Rattle.paint.proofs.from_str.Statement.{statement}
 use Rattle.paint.proofs.from_str.Tie as tie
 
@@ -10,22 +7,13 @@ pub from-str-spec : {M : Type 1} → statement M
 from-str-spec =
     tie.close
     (tie.spec
-    (λ c κs. search needs)
-    (λ c. search needs)
     (λ c. search needs)
     (λ c κs. search needs)
-    (λ c. search (cuts, needs))
-    (λ c. search (cuts, needs))
+    (λ c. search (none-alone, needs))
+    (λ c κs. search needs)
+    (λ c κs. search needs)
     (λ c. search needs)
-    (λ c. search (cuts, needs))
-    (λ c κs. search (cuts, needs))
+    (λ c. search (hex-paint, needs))
     (λ c. search needs)
-    (λ c κs. search (cuts, needs))
-    (λ c. search needs)
-    (λ c. search (cuts, needs))
-    (λ c. search (cuts, needs))
-    (λ c. search needs)
-    (λ c κs. search (cuts, needs))
-    (λ c. unfold fromStr in search (edges, flow, answers, needs) depth 20)
-    (λ c. unfold fromStr in search (edges, flow, trim-taken, answers, needs) depth 20)
-    (λ c. unfold fromStr in search (edges, flow, trim-taken, answers, c .before .before .before .before .before .before .before .before .before .before .before .before .admit-text, needs) depth 20))
+    (λ c κs. search needs)
+    (λ c. search needs))

@@ -1,6 +1,7 @@
 use borrow.Author.Needs.{needs}
 use Rattle.stream.proofs.Flows.{flow}
 use Rattle.paint.specs.Reading.{parsePaint}
+use Rattle.paint.proofs.Flat.{linked-first}
 use Rattle.paint.proofs.parse_paint.Statement.{statement}
 use Rattle.paint.proofs.parse_paint.Tie as tie
 
@@ -10,7 +11,8 @@ parse-paint-spec =
     (tie.spec
     (λ c. search needs)
     (λ c κs. search needs)
-    (λ c. unfold parsePaint in search (flow, needs) depth 20)
+    (λ c κs. search needs)
+    (λ c. search (linked-first, needs))
     (λ c. search needs)
     (λ c κs. search needs)
     (λ c. unfold parsePaint in search (flow, needs) depth 20)
@@ -24,7 +26,6 @@ parse-paint-spec =
     (λ c κs. search needs)
     (λ c. unfold parsePaint in search (flow, needs) depth 20)
     (λ c. search needs)
-    (λ c κs. search needs)
     (λ c κs. search needs)
     (λ c. unfold parsePaint in search (flow, needs) depth 20)
     (λ c κs. search needs)
