@@ -3,14 +3,14 @@ use Prim.Native.Nat.{ℕ, _+_, _≤_}
 use mathlib.Core.List.{List, [], _∷_, _++_}
 use mathlib.Core.Path.{_≡_, _∙_}
 use native.Mathlib.Omega.{arith}
-use lib.ListN.{length}
+use lib.ListN.{length, set}
 use lib.Seq.{paste}
 use Rattle.color.specs.declared.Color.{Color}
 use Rattle.filter_functions.specs.declared.Shadow.{Shadow}
 use Rattle.filter_functions.specs.declared.ShadowColor.{ShadowColor}
 use Rattle.filter_functions.specs.declared.ShadowColor.the-variants as H
 use Rattle.exports.specs.Records.{row, foundRow, lengthEntries, colorEntries, noColor, shadowEntries, shadowRow}
-use Rattle.exports.proofs.Entries.{record-part}
+use Rattle.exports.proofs.Entries.{record-set, record-part}
 
 -- o, p, q, r: the entries after the kind and after each of the three lengths
 module _ {o p q r : List ℕ} (xs : List ℕ) (k place : ℕ) (d : Shadow) (l : k + 24 ≤ length xs) (a : o ≡ paste xs k (foundRow place (2 ∷ [])) 24)
@@ -27,7 +27,8 @@ module _ {o p q r : List ℕ} (xs : List ℕ) (k place : ℕ) (d : Shadow) (l : 
   unfolding shadowRow
   shadow-none h = rw h shadow-lengths
 
-  pub shadow-some : {c : Color} {s : List ℕ} → d .color ≡ H.Some c → s ≡ paste r (k + 16) (1 ∷ colorEntries c) 5 → s ≡ paste xs k (shadowRow place d (d .color)) 24
+  pub shadow-some : {c : Color} {s : List ℕ} → d .color ≡ H.Some c → s ≡ paste r (k + 17) (colorEntries c) 4 → set s (k + 16) 1 ≡ paste xs k (shadowRow place d (d .color)) 24
   unfolding shadowRow row
   shadow-some {c} h g =
-      rw h (g ∙ record-part xs k (foundRow place (shadowEntries d 0 noColor)) shadow-lengths l (omega arith) 16 (1 ∷ colorEntries c) 5 (omega arith) (omega arith))
+      let s₁ = g ∙ record-part xs k (foundRow place (shadowEntries d 0 noColor)) shadow-lengths l (omega arith) 17 (colorEntries c) 4 (omega arith) (omega arith) in
+      rw h (record-set xs k (foundRow place (shadowEntries d 0 c)) s₁ l (omega arith) 16 (omega arith) 1)

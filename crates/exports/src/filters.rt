@@ -1,31 +1,17 @@
 // The record of a step of a list of filter values.
 ghost use mathlib.Core.Path.{_≡_};
-ghost use mathlib.Core.List.{_∷_};
 ghost use Prim.Native.Nat.{_+_, _≤_};
 ghost use lib.ListN.{length};
 ghost use lib.Seq.{paste};
-ghost use Rattle.exports.specs.Records.{lengthEntries, colorEntries, shadowRow, filterRow, filterRecord};
+ghost use Rattle.exports.specs.Records.{lengthEntries, shadowRow, filterRow, filterRecord};
 use crate::rows;
 use crate::written;
-use color::Color;
 use filter_functions::FilterStep;
 use filter_functions::FilterValue;
 use filter_functions::Shadow;
 use filter_functions::ShadowColor;
 use length::Length;
 use stream::Place;
-
-// A shadow's colour, and that there is one.
-fn with_color(out: &mut [u64], at: usize, c: Color)
-    requires { ⌜ at + 5 ≤ length (now out) ⌝ }
-    ensures { λ _. ⌜ now (out .exit) ≡ paste (now (out .entry)) at (1 ∷ colorEntries c) 5 ⌝ }
-{
-    out[at] = 1;
-    out[at + 1] = c.red as u64;
-    out[at + 2] = c.green as u64;
-    out[at + 3] = c.blue as u64;
-    out[at + 4] = c.alpha as u64;
-}
 
 fn measured(out: &mut [u64], at: usize, l: Length)
     requires { ⌜ at + 2 ≤ length (now out) ⌝ }
@@ -50,7 +36,10 @@ fn shadow(out: &mut [u64], k: usize, d: Shadow, place: Place)
     measured(out, k + 14, deviation);
     match color {
         ShadowColor::None => {}
-        ShadowColor::Some(c) => with_color(out, k + 16, c),
+        ShadowColor::Some(c) => {
+            written::color(out, k + 17, c);
+            out[k + 16] = 1;
+        }
     }
 }
 
@@ -89,7 +78,7 @@ pub fn write_filter(out: &mut [u64], k: usize, step: FilterStep)
     ensures { λ _. ⌜ now (out .exit) ≡ paste (now (out .entry)) k (filterRecord step) 24 ⌝ }
 {
     match step {
-        FilterStep::Refused(e, place) => written::refused(out, k, e, place),
+        FilterStep::Refused(e, place) => written::refused(out, k, e, 3, place),
         FilterStep::End(place) => written::ended(out, k, 1, place),
         FilterStep::NoneWord(place) => written::ended(out, k, 2, place),
         FilterStep::Value(value, place) => write_value(out, k, value, place),

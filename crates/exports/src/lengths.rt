@@ -13,7 +13,7 @@ pub fn write_length(out: &mut [u64], k: usize, step: LengthStep)
     ensures { λ _. ⌜ now (out .exit) ≡ paste (now (out .entry)) k (lengthStepRecord step) 24 ⌝ }
 {
     match step {
-        LengthStep::Refused(e, place) => written::refused(out, k, e, place),
+        LengthStep::Refused(e, place) => written::refused(out, k, e, 3, place),
         LengthStep::End(place) => written::ended(out, k, 1, place),
         LengthStep::Value(l, place) => {
             let unit = l.unit;

@@ -9,6 +9,7 @@ ghost use Rattle.funciri.specs.Answers.{iriFromStr, funcIriFromStr};
 ghost use Rattle.length.specs.Lengths as lengths;
 ghost use Rattle.paint.specs.Answers as paints;
 
+mod answers;
 mod filters;
 mod lengths;
 mod many;
@@ -20,16 +21,14 @@ mod written;
 pub extern "C" fn homeludaf_color(text: &[u8], answer: &mut [u64; 24])
     ensures { λ _. ⌜ now (answer .exit) ≡ colorRecord (colors.fromStr (now (text .entry))) ⌝ }
 {
-    let r = records::color_record(color::from_str(text));
-    *answer = r;
+    answers::write_color(answer, color::from_str(text));
 }
 
 #[no_mangle]
 pub extern "C" fn homeludaf_length(text: &[u8], answer: &mut [u64; 24])
     ensures { λ _. ⌜ now (answer .exit) ≡ lengthRecord (lengths.fromStr (now (text .entry))) ⌝ }
 {
-    let r = records::length_record(length::from_str(text));
-    *answer = r;
+    answers::write_length_answer(answer, length::from_str(text));
 }
 
 // One step of a list of lengths, from a list place: the walk with room for one record. So the reader has one caller, and is compiled into it.
@@ -46,32 +45,28 @@ pub extern "C" fn homeludaf_length_next(text: &[u8], place: usize, answer: &mut 
 pub extern "C" fn homeludaf_angle(text: &[u8], answer: &mut [u64; 24])
     ensures { λ _. ⌜ now (answer .exit) ≡ angleRecord (angles.fromStr (now (text .entry))) ⌝ }
 {
-    let r = records::angle_record(angle::from_str(text));
-    *answer = r;
+    answers::write_angle(answer, angle::from_str(text));
 }
 
 #[no_mangle]
 pub extern "C" fn homeludaf_iri(text: &[u8], answer: &mut [u64; 24])
     ensures { λ _. ⌜ now (answer .exit) ≡ linkRecord (iriFromStr (now (text .entry))) ⌝ }
 {
-    let r = records::link_record(funciri::iri_from_str(text));
-    *answer = r;
+    answers::write_link(answer, funciri::iri_from_str(text));
 }
 
 #[no_mangle]
 pub extern "C" fn homeludaf_func_iri(text: &[u8], answer: &mut [u64; 24])
     ensures { λ _. ⌜ now (answer .exit) ≡ linkRecord (funcIriFromStr (now (text .entry))) ⌝ }
 {
-    let r = records::link_record(funciri::func_iri_from_str(text));
-    *answer = r;
+    answers::write_link(answer, funciri::func_iri_from_str(text));
 }
 
 #[no_mangle]
 pub extern "C" fn homeludaf_paint(text: &[u8], answer: &mut [u64; 24])
     ensures { λ _. ⌜ now (answer .exit) ≡ paintRecord (paints.fromStr (now (text .entry))) ⌝ }
 {
-    let r = records::paint_record(paint::from_str(text));
-    *answer = r;
+    answers::write_paint(answer, paint::from_str(text));
 }
 
 // The inherit rule, over an element's own paint and its parent's.

@@ -1,11 +1,12 @@
-// The record of a list's step, written straight into the entries that are lent, case by case.
+// A record, written straight into the entries that are lent, case by case.
 // Built beside them and then copied, all of its values would be live at one place, and most would be spilled there.
 ghost use mathlib.Core.Path.{_≡_};
 ghost use mathlib.Core.List.{[], _∷_};
 ghost use Prim.Native.Nat.{_+_, _≤_};
 ghost use lib.ListN.{length};
 ghost use lib.Seq.{paste};
-ghost use Rattle.exports.specs.Records.{row, foundRow, endRow};
+ghost use Rattle.exports.specs.Records.{row, foundRow, endRow, colorEntries};
+use color::Color;
 use stream::Place;
 use stream::Refusal;
 
@@ -24,10 +25,10 @@ fn eight(out: &mut [u64], at: usize, a: u64, b: u64, c: u64, d: u64, e: u64, f: 
     out[at + 7] = h;
 }
 
-// A list's refusal.
-pub fn refused(out: &mut [u64], k: usize, e: Refusal, place: Place)
+// A refusal, with a list's state and place.
+pub fn refused(out: &mut [u64], k: usize, e: Refusal, state: u64, place: Place)
     requires { ⌜ k + 24 ≤ length (now out) ⌝ }
-    ensures { λ _. ⌜ now (out .exit) ≡ paste (now (out .entry)) k (row e 3 (place .0) []) 24 ⌝ }
+    ensures { λ _. ⌜ now (out .exit) ≡ paste (now (out .entry)) k (row e state (place .0) []) 24 ⌝ }
 {
     let position = e.position;
     let at = e.place;
@@ -43,7 +44,7 @@ pub fn refused(out: &mut [u64], k: usize, e: Refusal, place: Place)
         e.wanted as u64,
         start.0 as u64,
         part.len as u64,
-        3,
+        state,
     );
     eight(out, k + 8, place.0 as u64, 0, 0, 0, 0, 0, 0, 0);
     eight(out, k + 16, 0, 0, 0, 0, 0, 0, 0, 0);
@@ -82,4 +83,15 @@ pub fn ended(out: &mut [u64], k: usize, state: u64, place: Place)
 {
     one(out, k, place, 0);
     out[k + 7] = state;
+}
+
+// A colour of a record.
+pub fn color(out: &mut [u64], at: usize, c: Color)
+    requires { ⌜ at + 4 ≤ length (now out) ⌝ }
+    ensures { λ _. ⌜ now (out .exit) ≡ paste (now (out .entry)) at (colorEntries c) 4 ⌝ }
+{
+    out[at] = c.red as u64;
+    out[at + 1] = c.green as u64;
+    out[at + 2] = c.blue as u64;
+    out[at + 3] = c.alpha as u64;
 }

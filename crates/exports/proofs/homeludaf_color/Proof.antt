@@ -8,4 +8,4 @@ homeludaf-color-spec =
     (tie.spec
     (λ c κs. search needs)
     (λ c κs. search needs)
-    (λ c. rw (← c .before .from-str .ensures) (c .color-record .ensures)))
+    (λ c. rw (← c .before .from-str .ensures) (c .write-color .ensures)))

@@ -1,3 +1,4 @@
+use lib.ListN.{length-set}
 use Rattle.exports.proofs.Shadows.{shadow-none, shadow-some}
 use borrow.Author.Needs.{needs}
 use Rattle.exports.proofs.filters.shadow.Statement.{statement}
@@ -19,6 +20,9 @@ shadow-spec =
     (λ c. search needs)
     (λ c κs. search needs)
     (λ c. search needs)
-    (λ c. let a = c .before .before .before .before .before .before .before .before .before .before .before .before .before .before .before .before .before .before .before .before .before .before .args in shadow-none (a .out .now) (a .k) (a .place .0) (a .d) (search needs) (c .before .before .before .before .before .before .before .before .before .before .before .before .before .before .before .before .one .ensures) (c .before .before .before .before .before .before .before .before .before .before .before .before .measured .ensures) (c .before .before .before .before .before .before .before .before .measured2 .ensures) (c .before .before .before .before .measured3 .ensures) (c .enum-told .given .1))
     (λ c. search needs)
-    (λ c. let a = c .before .before .before .before .before .before .before .before .before .before .before .before .before .before .before .before .before .before .before .before .before .before .before .before .before .before .before .args in shadow-some (a .out .now) (a .k) (a .place .0) (a .d) (search needs) (c .before .before .before .before .before .before .before .before .before .before .before .before .before .before .before .before .before .before .before .before .before .one .ensures) (c .before .before .before .before .before .before .before .before .before .before .before .before .before .before .before .before .before .measured .ensures) (c .before .before .before .before .before .before .before .before .before .before .before .before .before .measured2 .ensures) (c .before .before .before .before .before .before .before .before .before .measured3 .ensures) (c .before .before .before .before .before .color .given .1) (c .before .before .with-color .ensures)))
+    (λ c. search needs)
+    (λ c. search needs)
+    (λ c. let a = c .before .before .before .before .before .before .before .before .before .before .before .before .before .before .before .before .before .before .before .before .before .before .args in shadow-none (a .out .now) (a .k) (a .place .0) (a .d) (search needs) (c .before .before .before .before .before .before .before .before .before .before .before .before .before .before .before .before .one .ensures) (c .before .before .before .before .before .before .before .before .before .before .before .before .measured .ensures) (c .before .before .before .before .before .before .before .before .measured2 .ensures) (c .before .before .before .before .measured3 .ensures) (c .enum-told .given .1))
+    (λ c. simp length-set (search needs))
+    (λ c. let a = c .before .before .before .before .before .before .before .before .before .before .before .before .before .before .before .before .before .before .before .before .before .before .before .before .before .before .before .args in shadow-some (a .out .now) (a .k) (a .place .0) (a .d) (search needs) (c .before .before .before .before .before .before .before .before .before .before .before .before .before .before .before .before .before .before .before .before .before .one .ensures) (c .before .before .before .before .before .before .before .before .before .before .before .before .before .before .before .before .before .measured .ensures) (c .before .before .before .before .before .before .before .before .before .before .before .before .before .measured2 .ensures) (c .before .before .before .before .before .before .before .before .before .measured3 .ensures) (c .before .before .before .before .before .color .given .1) (c .before .before .color2 .ensures)))

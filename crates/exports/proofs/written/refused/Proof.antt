@@ -20,4 +20,4 @@ refused-spec =
     (λ c. omega (arith, c .before .before .before .before .before .before .before .before .before .before .before .before .before .before .before .before .before .pre, c .before .before .before .before .before .before .before .before .before .before .before .before .before .before .before .before .before .good))
     (λ c κs. search needs)
     (λ c. search needs)
-    (λ c. let a = c .before .before .before .before .before .before .before .before .before .before .before .before .before .before .before .before .before .before .before .before .args in unfold row in thirds (a .out .now) (a .k) (a .e .number ∷ a .e .position .0 ∷ a .e .place .0 ∷ a .e .found ∷ a .e .wanted ∷ a .e .part .start .0 ∷ a .e .part .len ∷ 3 ∷ []) (a .place .0 ∷ 0 ∷ 0 ∷ 0 ∷ 0 ∷ 0 ∷ 0 ∷ 0 ∷ []) (0 ∷ 0 ∷ 0 ∷ 0 ∷ 0 ∷ 0 ∷ 0 ∷ 0 ∷ []) (c .before .before .before .before .before .before .before .before .before .before .eight .ensures) (c .before .before .before .before .before .before .eight2 .ensures) (c .before .before .eight3 .ensures) refl refl refl (c .before .before .before .before .before .before .before .before .before .before .before .before .before .before .before .before .before .before .before .before .pre)))
+    (λ c. let a = c .before .before .before .before .before .before .before .before .before .before .before .before .before .before .before .before .before .before .before .before .args in unfold row in thirds (a .out .now) (a .k) (a .e .number ∷ a .e .position .0 ∷ a .e .place .0 ∷ a .e .found ∷ a .e .wanted ∷ a .e .part .start .0 ∷ a .e .part .len ∷ a .state ∷ []) (a .place .0 ∷ 0 ∷ 0 ∷ 0 ∷ 0 ∷ 0 ∷ 0 ∷ 0 ∷ []) (0 ∷ 0 ∷ 0 ∷ 0 ∷ 0 ∷ 0 ∷ 0 ∷ 0 ∷ []) (c .before .before .before .before .before .before .before .before .before .before .eight .ensures) (c .before .before .before .before .before .before .eight2 .ensures) (c .before .before .eight3 .ensures) refl refl refl (c .before .before .before .before .before .before .before .before .before .before .before .before .before .before .before .before .before .before .before .before .pre)))
