@@ -1,7 +1,7 @@
 -- The laws of the writing of an answer's record, which is all of the entries that are lent.
 use Prim.Native.Nat.{ℕ, _≤_}
 use mathlib.Core.List.{List, [], _∷_, append-nil}
-use mathlib.Core.Path.{_≡_, refl, _∙_}
+use mathlib.Core.Path.{_≡_, _∙_}
 use lib.ListN.{length, drop, set}
 use lib.Seq.{paste, drop-length}
 use Rattle.stream.specs.Refusals.{bareRefusal}

@@ -23,7 +23,7 @@ fn refused(out: &mut [u64], e: Refusal)
     written::refused(out, 0, e, 0, Place(0));
 }
 
-// A paint's kind, or a result of one number.
+// A result of one number, such as a paint's kind; of 0, a record of zeros.
 fn kind(out: &mut [u64], n: u64)
     requires { ⌜ length (now out) ≡ 24 ⌝ }
     ensures { λ _. ⌜ now (out .exit) ≡ foundRow 0 (n ∷ []) ⌝ }
@@ -132,4 +132,13 @@ pub fn write_paint(out: &mut [u64], answer: PaintAnswer)
         PaintAnswer::Refused(e) => refused(out, e),
         PaintAnswer::Value(paint) => write_paint_value(out, paint),
     }
+}
+
+// The part that the inherit rule chooses, and whose text it is of.
+pub fn write_chosen(out: &mut [u64], whose: u64, part: Part)
+    requires { ⌜ length (now out) ≡ 24 ⌝ }
+    ensures { λ _. ⌜ now (out .exit) ≡ foundRow 0 (whose ∷ part .start .0 ∷ part .len ∷ []) ⌝ }
+{
+    let start = part.start;
+    written::three(out, 0, Place(0), whose, start.0 as u64, part.len as u64);
 }

@@ -13,7 +13,6 @@ mod answers;
 mod filters;
 mod lengths;
 mod many;
-mod records;
 mod rows;
 mod written;
 
@@ -62,20 +61,40 @@ pub extern "C" fn homeludaf_func_iri(text: &[u8], answer: &mut [u64; 24])
     answers::write_link(answer, funciri::func_iri_from_str(text));
 }
 
-#[no_mangle]
-pub extern "C" fn homeludaf_paint(text: &[u8], answer: &mut [u64; 24])
+// So the reader of paints has one caller, and is compiled into it.
+fn paint_into(text: &[u8], answer: &mut [u64; 24])
     ensures { λ _. ⌜ now (answer .exit) ≡ paintRecord (paints.fromStr (now (text .entry))) ⌝ }
 {
     answers::write_paint(answer, paint::from_str(text));
 }
 
-// The inherit rule, over an element's own paint and its parent's.
+#[no_mangle]
+pub extern "C" fn homeludaf_paint(text: &[u8], answer: &mut [u64; 24])
+    ensures { λ _. ⌜ now (answer .exit) ≡ paintRecord (paints.fromStr (now (text .entry))) ⌝ }
+{
+    paint_into(text, answer);
+}
+
+// The inherit rule, over an element's own paint and its parent's, by their records: entry 0 is a refusal's number, entry 9 is 2 for `inherit`.
 #[no_mangle]
 pub extern "C" fn homeludaf_inherited(own: &[u8], parent: &[u8], answer: &mut [u64; 24])
     ensures { λ _. ⌜ now (answer .exit) ≡ inheritedRecord (paints.inheritedOf (now (own .entry)) (now (parent .entry))) ⌝ }
 {
-    let r = records::inherited_record(paint::inherited(own, parent));
-    *answer = r;
+    paint_into(own, answer);
+    if answer[0] != 0 {
+        answer[9] = 1;
+        return;
+    }
+    if answer[9] != 2 {
+        answers::write_chosen(answer, 1, stream::trim(own));
+        return;
+    }
+    paint_into(parent, answer);
+    if answer[0] != 0 {
+        answer[9] = 2;
+        return;
+    }
+    answers::write_chosen(answer, 2, stream::trim(parent));
 }
 
 // One step of a list of filter values, from a list place: the walk with room for one record, as of lengths.
