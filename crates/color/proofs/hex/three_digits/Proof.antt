@@ -1,7 +1,7 @@
 use Rattle.color.proofs.Flat.{Low, high-fits, pair-fits, three-low, three-yes, three-no}
 use borrow.Author.Needs.{needs}
-use Rattle.color.proofs.three_digits.Statement.{statement}
-use Rattle.color.proofs.three_digits.Tie as tie
+use Rattle.color.proofs.hex.three_digits.Statement.{statement}
+use Rattle.color.proofs.hex.three_digits.Tie as tie
 
 low : (c : tie.Then1) → Low (c .before .before .before .before .before .hex-digit .result) (c .before .before .before .hex-digit2 .result) (c .before .hex-digit3 .result)
 low c = three-low _ _ _ (c .if1 .taken)

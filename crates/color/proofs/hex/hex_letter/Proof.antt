@@ -3,8 +3,8 @@ use native.Mathlib.Omega.{arith}
 use Rattle.stream.proofs.Ranges.{ranged}
 use Rattle.color.proofs.Digits.{digit-small}
 use borrow.Author.Needs.{needs}
-use Rattle.color.proofs.hex_letter.Statement.{statement}
-use Rattle.color.proofs.hex_letter.Tie as tie
+use Rattle.color.proofs.hex.hex_letter.Statement.{statement}
+use Rattle.color.proofs.hex.hex_letter.Tie as tie
 
 pub hex-letter-spec : {M : Type 1} → statement M
 hex-letter-spec =

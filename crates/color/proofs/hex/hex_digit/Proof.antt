@@ -3,8 +3,8 @@ use native.Mathlib.Omega.{arith}
 use Rattle.stream.proofs.Ranges.{ranged}
 use Rattle.color.proofs.Digits.{digit-numeral}
 use borrow.Author.Needs.{needs}
-use Rattle.color.proofs.hex_digit.Statement.{statement}
-use Rattle.color.proofs.hex_digit.Tie as tie
+use Rattle.color.proofs.hex.hex_digit.Statement.{statement}
+use Rattle.color.proofs.hex.hex_digit.Tie as tie
 
 pub hex-digit-spec : {M : Type 1} → statement M
 hex-digit-spec =

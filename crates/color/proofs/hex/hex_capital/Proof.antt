@@ -2,8 +2,8 @@ use native.Mathlib.Omega.{arith}
 use Rattle.stream.proofs.Ranges.{ranged}
 use Rattle.color.proofs.Digits.{digit-capital, digit-none}
 use borrow.Author.Needs.{needs}
-use Rattle.color.proofs.hex_capital.Statement.{statement}
-use Rattle.color.proofs.hex_capital.Tie as tie
+use Rattle.color.proofs.hex.hex_capital.Statement.{statement}
+use Rattle.color.proofs.hex.hex_capital.Tie as tie
 
 pub hex-capital-spec : {M : Type 1} → statement M
 hex-capital-spec =

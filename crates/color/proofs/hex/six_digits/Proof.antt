@@ -1,7 +1,7 @@
 use Rattle.color.proofs.Flat.{Low, high-fits, pair-fits, six-low, six-yes, six-no}
 use borrow.Author.Needs.{needs}
-use Rattle.color.proofs.six_digits.Statement.{statement}
-use Rattle.color.proofs.six_digits.Tie as tie
+use Rattle.color.proofs.hex.six_digits.Statement.{statement}
+use Rattle.color.proofs.hex.six_digits.Tie as tie
 
 low : (c : tie.Then1)
     → Low (c .before .before .before .before .before .before .before .before .before .before .before .hex-digit .result) (c .before .before .before .before .before .before .before .before .before .hex-digit2 .result) (c .before .before .before .before .before .before .before .hex-digit3 .result)

@@ -5,8 +5,8 @@ use Rattle.color.proofs.Flat.{flat-inside, hex-flat}
 use Rattle.color.proofs.Steps.{coloured}
 use Rattle.color.specs.Hex.{parseHex}
 use borrow.Author.Needs.{needs}
-use Rattle.color.proofs.parse_hex.Statement.{statement}
-use Rattle.color.proofs.parse_hex.Tie as tie
+use Rattle.color.proofs.hex.parse_hex.Statement.{statement}
+use Rattle.color.proofs.hex.parse_hex.Tie as tie
 
 pub parse-hex-spec : {M : Type 1} → statement M
 parse-hex-spec =

@@ -1,7 +1,7 @@
 use Rattle.color.specs.Hex.{longColor}
 use borrow.Author.Needs.{needs}
-use Rattle.color.proofs.long_color.Statement.{statement}
-use Rattle.color.proofs.long_color.Tie as tie
+use Rattle.color.proofs.hex.long_color.Statement.{statement}
+use Rattle.color.proofs.hex.long_color.Tie as tie
 
 pub long-color-spec : {M : Type 1} → statement M
 long-color-spec =

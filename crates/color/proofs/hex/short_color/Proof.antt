@@ -1,7 +1,7 @@
 use Rattle.color.specs.Hex.{shortColor}
 use borrow.Author.Needs.{needs}
-use Rattle.color.proofs.short_color.Statement.{statement}
-use Rattle.color.proofs.short_color.Tie as tie
+use Rattle.color.proofs.hex.short_color.Statement.{statement}
+use Rattle.color.proofs.hex.short_color.Tie as tie
 
 pub short-color-spec : {M : Type 1} → statement M
 short-color-spec =

@@ -1,8 +1,8 @@
 use Rattle.stream.proofs.Flows.{flow}
 use Rattle.color.specs.Flat.{hexAlone}
 use borrow.Author.Needs.{needs}
-use Rattle.color.proofs.hex_alone.Statement.{statement}
-use Rattle.color.proofs.hex_alone.Tie as tie
+use Rattle.color.proofs.hex.hex_alone.Statement.{statement}
+use Rattle.color.proofs.hex.hex_alone.Tie as tie
 
 pub hex-alone-spec : {M : Type 1} → statement M
 hex-alone-spec =

@@ -1,7 +1,7 @@
 use Rattle.color.specs.Hex.{hexPair}
 use borrow.Author.Needs.{needs}
-use Rattle.color.proofs.hex_pair.Statement.{statement}
-use Rattle.color.proofs.hex_pair.Tie as tie
+use Rattle.color.proofs.hex.hex_pair.Statement.{statement}
+use Rattle.color.proofs.hex.hex_pair.Tie as tie
 
 pub hex-pair-spec : {M : Type 1} → statement M
 hex-pair-spec =

@@ -1,8 +1,8 @@
 use native.Mathlib.Omega.{arith}
 use Rattle.color.proofs.Digits.{value-capital, value-numeral, value-small, valued}
 use borrow.Author.Needs.{needs}
-use Rattle.color.proofs.from_hex.Statement.{statement}
-use Rattle.color.proofs.from_hex.Tie as tie
+use Rattle.color.proofs.hex.from_hex.Statement.{statement}
+use Rattle.color.proofs.hex.from_hex.Tie as tie
 
 pub from-hex-spec : {M : Type 1} → statement M
 from-hex-spec =

@@ -1,7 +1,7 @@
 use Rattle.color.specs.Hex.{shortHex}
 use borrow.Author.Needs.{needs}
-use Rattle.color.proofs.short_hex.Statement.{statement}
-use Rattle.color.proofs.short_hex.Tie as tie
+use Rattle.color.proofs.hex.short_hex.Statement.{statement}
+use Rattle.color.proofs.hex.short_hex.Tie as tie
 
 pub short-hex-spec : {M : Type 1} → statement M
 short-hex-spec =

@@ -1,0 +1,181 @@
+// The hex notation: `#` and a run of three, four, six or eight digits.
+ghost use mathlib.Core.Bool.{false};
+ghost use mathlib.Core.Path.{_≡_};
+ghost use Prim.Native.Nat.{_+_, _≤_};
+ghost use lib.ListN.{length};
+ghost use Rattle.stream.specs.Bytes.{within};
+ghost use Rattle.color.specs.Hex.{fromHex, shortHex, hexPair, shortColor, longColor, parseHex};
+ghost use Rattle.color.specs.Flat.{hexDigit, sixDigits, threeDigits, hexAlone};
+use crate::Color;
+use crate::ColorRead;
+use crate::HexTry;
+use stream::Place;
+
+// A text that is `#` and six or three digits: all ASCII, so it needs no test of UTF-8.
+pub fn hex_alone(text: &[u8]) -> HexTry
+    ensures { λ r. ⌜ r ≡ hexAlone (now (text .entry)) ⌝ }
+{
+    if text.len() == 7 {
+        if text[0] == b'#' {
+            return six_digits(text, 1);
+        }
+        return HexTry::Other;
+    }
+    if text.len() == 4 {
+        if text[0] == b'#' {
+            return three_digits(text, 1);
+        }
+    }
+    HexTry::Other
+}
+
+// The colour whose hex digits start at a place, the one after the `#`.
+pub fn parse_hex(text: &[u8], at: Place) -> ColorRead
+    requires { ⌜ at .0 ≤ length (now text) ⌝ }
+    ensures { λ r. ⌜ r ≡ parseHex (now (text .entry)) (at .0) ⌝ }
+{
+    let from = at.0;
+    if (from + 6 <= text.len()) & !stream::is_hex_digit(stream::byte_at(text, from + 6)) {
+        match six_digits(text, from) {
+            HexTry::Digits(color) => {
+                return ColorRead::Value(color, Place(from + 6));
+            }
+            HexTry::Other => {}
+        }
+    }
+    let end = stream::skip_hex_digits(text, at);
+    let to = end.0;
+    match to - from {
+        6 => ColorRead::Value(long_color(text, from, 255), end),
+        8 => ColorRead::Value(long_color(text, from, hex_pair(text, from + 6)), end),
+        3 => ColorRead::Value(short_color(text, from, 255), end),
+        4 => ColorRead::Value(short_color(text, from, short_hex(text, from + 3)), end),
+        _ => ColorRead::Refused(stream::invalid_value(end)),
+    }
+}
+
+// Six digits, the most common colour, each read once and all tested together.
+fn six_digits(text: &[u8], at: usize) -> HexTry
+    requires { ⌜ at + 6 ≤ length (now text) ⌝ }
+    ensures { λ r. ⌜ r ≡ sixDigits (now (text .entry)) at ⌝ }
+{
+    let a = hex_digit(text[at]);
+    let b = hex_digit(text[at + 1]);
+    let c = hex_digit(text[at + 2]);
+    let d = hex_digit(text[at + 3]);
+    let e = hex_digit(text[at + 4]);
+    let f = hex_digit(text[at + 5]);
+    if (a < 16) & ((b < 16) & ((c < 16) & ((d < 16) & ((e < 16) & (f < 16))))) {
+        return HexTry::Digits(Color {
+            red: a * 16 + b,
+            green: c * 16 + d,
+            blue: e * 16 + f,
+            alpha: 255,
+        });
+    }
+    HexTry::Other
+}
+
+// Three digits, likewise.
+fn three_digits(text: &[u8], at: usize) -> HexTry
+    requires { ⌜ at + 3 ≤ length (now text) ⌝ }
+    ensures { λ r. ⌜ r ≡ threeDigits (now (text .entry)) at ⌝ }
+{
+    let a = hex_digit(text[at]);
+    let b = hex_digit(text[at + 1]);
+    let c = hex_digit(text[at + 2]);
+    if (a < 16) & ((b < 16) & (c < 16)) {
+        return HexTry::Digits(Color {
+            red: a * 16 + a,
+            green: b * 16 + b,
+            blue: c * 16 + c,
+            alpha: 255,
+        });
+    }
+    HexTry::Other
+}
+
+// The value of a hex digit, 16 for another byte.
+fn hex_digit(c: u8) -> u8
+    ensures { λ r. ⌜ r ≡ hexDigit c ⌝ }
+{
+    match c {
+        b'0'..=b'9' => c - b'0',
+        _ => hex_letter(c),
+    }
+}
+
+// One range in each function: of several in one `match` each costs two comparisons.
+fn hex_letter(c: u8) -> u8
+    requires { ⌜ false ≡ within 48 57 c ⌝ }
+    ensures { λ r. ⌜ r ≡ hexDigit c ⌝ }
+{
+    match c {
+        b'a'..=b'f' => c - b'a' + 10,
+        _ => hex_capital(c),
+    }
+}
+
+fn hex_capital(c: u8) -> u8
+    requires { ⌜ false ≡ within 48 57 c ⌝ }
+    requires { ⌜ false ≡ within 97 102 c ⌝ }
+    ensures { λ r. ⌜ r ≡ hexDigit c ⌝ }
+{
+    match c {
+        b'A'..=b'F' => c - b'A' + 10,
+        _ => 16,
+    }
+}
+
+// The value of a hex digit, 0 for another byte.
+fn from_hex(c: u8) -> u8
+    ensures { λ r. ⌜ r ≡ fromHex c ⌝ }
+    ensures { λ r. ⌜ r ≤ 15 ⌝ }
+{
+    match c {
+        b'0'..=b'9' => c - b'0',
+        b'a'..=b'f' => c - b'a' + 10,
+        b'A'..=b'F' => c - b'A' + 10,
+        _ => 0,
+    }
+}
+
+// A channel of one digit, doubled.
+fn short_hex(text: &[u8], at: usize) -> u8
+    ensures { λ r. ⌜ r ≡ shortHex (now (text .entry)) at ⌝ }
+{
+    let h = from_hex(stream::byte_at(text, at));
+    h * 16 + h
+}
+
+// A channel of two digits.
+fn hex_pair(text: &[u8], at: usize) -> u8
+    requires { ⌜ at ≤ length (now text) ⌝ }
+    ensures { λ r. ⌜ r ≡ hexPair (now (text .entry)) at ⌝ }
+{
+    from_hex(stream::byte_at(text, at)) * 16 + from_hex(stream::byte_at(text, at + 1))
+}
+
+fn short_color(text: &[u8], at: usize, alpha: u8) -> Color
+    requires { ⌜ at ≤ length (now text) ⌝ }
+    ensures { λ r. ⌜ r ≡ shortColor (now (text .entry)) at alpha ⌝ }
+{
+    Color {
+        red: short_hex(text, at),
+        green: short_hex(text, at + 1),
+        blue: short_hex(text, at + 2),
+        alpha,
+    }
+}
+
+fn long_color(text: &[u8], at: usize, alpha: u8) -> Color
+    requires { ⌜ at + 4 ≤ length (now text) ⌝ }
+    ensures { λ r. ⌜ r ≡ longColor (now (text .entry)) at alpha ⌝ }
+{
+    Color {
+        red: hex_pair(text, at),
+        green: hex_pair(text, at + 2),
+        blue: hex_pair(text, at + 4),
+        alpha,
+    }
+}
