@@ -1,4 +1,5 @@
 pub mod Sums
+pub mod Told
 pub mod Steps
 pub mod Shifts
 pub mod Exact

@@ -11,7 +11,7 @@ use lib.ListN.{length, getD, drop, List·getD-eq-default, drop-of-length-le}
 use lib.Seq.{drop-cons}
 use native.Mathlib.Omega.{arith}
 use borrow.Author.Tests.{ne-eqb, le-leb, lt-leb, le-ltb, lt-ltb, ltb-true, leb-true}
-use Rattle.stream.specs.Bytes.{isDigit, isSign, isSpace}
+use Rattle.stream.specs.Bytes.{within, isDigit, isSign, isSpace}
 use Rattle.stream.specs.Faults.{place}
 use Rattle.stream.specs.Flow.{bind}
 use Rattle.stream.specs.Scan.{run, scan}
@@ -21,7 +21,7 @@ use Rattle.stream.specs.declared.Trouble.the-variants as T
 use Rattle.stream.proofs.Octets.{and-first, and-second}
 use Rattle.stream.proofs.Ahead.{scan-again}
 use Rattle.stream.proofs.Ranges.{lt-or-le, either, within-ge}
-use Rattle.stream.proofs.Scans.{run-inside}
+use Rattle.stream.proofs.Scans.{run-inside, scan-ge}
 use Rattle.numbers.proofs.Sums.{capped}
 use Rattle.numbers.specs.Digits.{value, cap}
 use Rattle.numbers.specs.Held.{heldMantissa, heldExponent, wholeNumber, isDecimal, decimalNumber}
@@ -35,7 +35,7 @@ use Rattle.numbers.specs.declared.NumberRead.{NumberRead}
 use Rattle.numbers.specs.declared.NumberRead.the-variants as N
 use Rattle.numbers.specs.declared.Scale.{Scale}
 
-not-true : (t : Bool) → not t ≡ true → t ≡ false
+pub not-true : (t : Bool) → not t ≡ true → t ≡ false
 not-true true e = sym e
 not-true false e = refl
 
@@ -210,47 +210,41 @@ module _ (s : List ℕ) (start : ℕ) {b from : ℕ} {m : Mantissa} {e : Exponen
 
 pub ruleset readings = (exponent-small, fraction-small, number-from)
 
-neither : (a b : Bool) → not (a || b) ≡ true → (a ≡ false) × (b ≡ false)
+pub neither : (a b : Bool) → not (a || b) ≡ true → (a ≡ false) × (b ≡ false)
 neither true b e = absurd (true≢false (sym e))
 neither false b e = (refl, not-true b e)
+
+pub no-exponent : (s : List ℕ) (at : ℕ) → (eqb (getD s at 0) 101 || eqb (getD s at 0) 69) ≡ false → exponentAt s at ≡ noExponent at
+unfolding exponentAt
+no-exponent s at e = simp e
 
 pub whole-small : {n : ℕ} (t u : Bool) → (t && (u && ltb n cap)) ≡ true → n < cap
 whole-small {n} t u h = ltb-true n cap (and-second u (ltb n cap) (and-second t (u && ltb n cap) h))
 
--- a run of digits that nothing follows is the number: t is what the test of the byte after it answered
+-- a run of digits that neither a dot nor an exponent follows is the number
+pub whole-made : (s : List ℕ) (start : ℕ) {b from last n : ℕ} → b ≡ getD s start 0 → from ≡ afterSign s start → last ≡ scan isDigit s from → n ≡ min cap (value 0 (drop from s))
+    → eqb (getD s last 0) 46 ≡ false → exponentAt s last ≡ noExponent last → ltb from last ≡ true → n < cap → wholeNumber (eqb b 45) n last ≡ numberFrom s start
+unfolding numberFrom mantissaAt mantissaDot finished scaled scaleOf
+whole-made s start {b} {from} {last} {n} p q d v dot none some small =
+    let same : value 0 (drop from s) ≡ n = omega (arith, small, v) in
+    simp (← p, ← q, ← d, dot, none, some, same, lt-ltb n cap small)
+
+-- t is what the test of the byte after it answered
 module _ (s : List ℕ) (start : ℕ) {b from last n x : ℕ} {t : Bool} (p : b ≡ getD s start 0) (q : from ≡ afterSign s start) (d : last ≡ scan isDigit s from) (v : n ≡ min cap (value 0 (drop from s))) (y : x ≡ getD s last 0) (w : t ≡ not (eqb x 46 || (eqb x 101 || eqb x 69))) (h : (t && (ltb from last && ltb n cap)) ≡ true) where
   pub whole-read : {r : NumberRead} → r ≡ wholeNumber (eqb b 45) n last → r ≡ numberFrom s start
-  unfolding numberFrom mantissaAt mantissaDot exponentAt finished scaled scaleOf
   whole-read z =
       let after : (eqb x 46 ≡ false) × ((eqb x 101 || eqb x 69) ≡ false) = neither (eqb x 46) (eqb x 101 || eqb x 69) (sym w ∙ and-first t (ltb from last && ltb n cap) h) in
       let some : ltb from last ≡ true = and-first (ltb from last) (ltb n cap) (and-second t (ltb from last && ltb n cap) h) in
-      let small : n < cap = whole-small t (ltb from last) h in
-      let same : value 0 (drop from s) ≡ n = omega (arith, small, v) in
-      simp (← p, ← q, ← d, ← y, after .0, after .1, some, same, lt-ltb n cap small) z
+      z ∙ whole-made s start p q d v (rw (← y) (after .0)) (no-exponent s last (rw (← y) (after .1))) some (whole-small t (ltb from last) h)
 
 pub ruleset wholes = (whole-small, whole-read)
 
--- what the test of a decimal tells: t is what it answered
-record Told (m : Mantissa) (x : ℕ) : Type 0 where
-  formed : m .ok ≡ true
-  dotted : m .dotted ≡ true
-  small : m .value < cap
-  short : m .fraction < 23
-  ended : (eqb x 101 || eqb x 69) ≡ false
-
-told : (m : Mantissa) (x : ℕ) {t : Bool} → t ≡ isDecimal m x → t ≡ true → Told m x
-told m x k h =
-    let all : isDecimal m x ≡ true = sym k ∙ h in
-    let form : (m .ok && m .dotted) ≡ true = and-first _ _ all in
-    let size : (ltb (m .value) cap && (leb (m .fraction) 22 && not (eqb x 101 || eqb x 69))) ≡ true = and-second (m .ok && m .dotted) _ all in
-    let rest : (leb (m .fraction) 22 && not (eqb x 101 || eqb x 69)) ≡ true = and-second (ltb (m .value) cap) _ size in
-    record {
-      formed = and-first (m .ok) (m .dotted) form;
-      dotted = and-second (m .ok) (m .dotted) form;
-      small = ltb-true (m .value) cap (and-first _ _ size);
-      short = omega (arith, leb-true (m .fraction) 22 (and-first _ _ rest));
-      ended = not-true (eqb x 101 || eqb x 69) (and-second (leb (m .fraction) 22) _ rest);
-    }
+-- a fraction that is well formed, with M and the scale in bounds
+pub record Short (m : Mantissa) : Type 0 where
+  pub formed : m .ok ≡ true
+  pub dotted : m .dotted ≡ true
+  pub small : m .value < cap
+  pub short : m .fraction < 23
 
 -- a fraction that is well formed has a digit
 fraction-some : (s : List ℕ) (at : ℕ) → (mantissaAt s at) .ok ≡ true → (mantissaAt s at) .dotted ≡ true → 0 < (mantissaAt s at) .fraction
@@ -261,29 +255,43 @@ fraction-some s at o d =
     (λ e. let f : ltb (dot + 1) (scan isDigit s (dot + 1)) ≡ true = simp e at o in simp e (omega (arith, ltb-true (dot + 1) (scan isDigit s (dot + 1)) f)))
     (λ e. absurd (true≢false (sym (simp e at d))))
 
-decimal-finished : (s : List ℕ) (minus : Bool) (m : Mantissa) (start : ℕ) → Told m (getD s (m .end) 0) → 0 < m .fraction
+decimal-finished : (s : List ℕ) (minus : Bool) (m : Mantissa) (start : ℕ) → Short m → exponentAt s (m .end) ≡ noExponent (m .end) → 0 < m .fraction
     → decimalNumber minus m ≡ finished minus m (heldExponent (exponentAt s (m .end))) start
 unfolding finished scaled
-decimal-finished s minus m start d f =
-    let none : exponentAt s (m .end) ≡ noExponent (m .end) = unfold exponentAt in simp (d .ended) in
+decimal-finished s minus m start d none f =
     let by : m .fraction - 0 ≡ m .fraction = omega arith in
     let near : leb (m .fraction) 22 ≡ true = le-leb (m .fraction) 22 (omega (arith, d .short)) in
     simp (none, d .formed, d .dotted, lt-ltb (m .value) cap (d .small), ← scale-down false 0 (m .fraction) refl f, by, near)
 
 -- digits and a fraction that no exponent follows are the number
+pub decimal-made : (s : List ℕ) (start : ℕ) {b from : ℕ} {m : Mantissa} → b ≡ getD s start 0 → from ≡ afterSign s start → m ≡ heldMantissa (mantissaAt s from) → Short m
+    → exponentAt s (m .end) ≡ noExponent (m .end) → length s ≤ 4096 → decimalNumber (eqb b 45) m ≡ numberFrom s start
+decimal-made s start {b} {from} {m} p q w d none l =
+    let f : 0 < m .fraction = rw w (fraction-some s from (rw w at (d .formed)) (rw w at (d .dotted))) in
+    number-from s start p q w refl l (decimal-finished s (eqb b 45) m start d none f)
+
+-- t is what the test of a decimal answered
 module _ (m : Mantissa) (x : ℕ) {t : Bool} (k : t ≡ isDecimal m x) (h : t ≡ true) where
+  decimal-size : (ltb (m .value) cap && (leb (m .fraction) 22 && not (eqb x 101 || eqb x 69))) ≡ true
+  decimal-size = and-second (m .ok && m .dotted) _ (sym k ∙ h)
+
+  decimal-rest : (leb (m .fraction) 22 && not (eqb x 101 || eqb x 69)) ≡ true
+  decimal-rest = and-second (ltb (m .value) cap) _ decimal-size
+
   pub decimal-small : m .value < cap
-  decimal-small = told m x k h .small
+  decimal-small = ltb-true (m .value) cap (and-first _ _ decimal-size)
 
   pub decimal-short : m .fraction < 23
-  decimal-short = told m x k h .short
+  decimal-short = omega (arith, leb-true (m .fraction) 22 (and-first _ _ decimal-rest))
 
   pub decimal-read : (s : List ℕ) (start : ℕ) {b from : ℕ} {r : NumberRead} → b ≡ getD s start 0 → from ≡ afterSign s start → m ≡ heldMantissa (mantissaAt s from) → x ≡ getD s (m .end) 0
       → length s ≤ 4096 → r ≡ decimalNumber (eqb b 45) m → r ≡ numberFrom s start
-  decimal-read s start {b} {from} p q w y l z =
-      let d : Told m (getD s (m .end) 0) = rw (← y) (told m x k h) in
-      let f : 0 < m .fraction = rw w (fraction-some s from (rw w at (d .formed)) (rw w at (d .dotted))) in
-      number-from s start p q w refl l (z ∙ decimal-finished s (eqb b 45) m start d f)
+  decimal-read s start p q w y l z =
+      let form : (m .ok && m .dotted) ≡ true = and-first _ _ (sym k ∙ h) in
+      let ended : (eqb x 101 || eqb x 69) ≡ false = not-true (eqb x 101 || eqb x 69) (and-second (leb (m .fraction) 22) _ decimal-rest) in
+      z ∙ decimal-made s start p q w
+      (record { formed = and-first (m .ok) (m .dotted) form; dotted = and-second (m .ok) (m .dotted) form; small = decimal-small; short = decimal-short })
+      (no-exponent s (m .end) (rw (← y) ended)) l
 
 pub ruleset decimals = (decimal-small, decimal-short, decimal-read)
 
@@ -322,6 +330,51 @@ run-digit s i h =
     (λ (l : length s ≤ i). let z : scan isDigit s i ≡ i = simp (drop-of-length-le s l) (omega arith) in absurd (omega arith))
     (lt-or-le i (length s))
 
+-- and has no sign before it
+pub record Unsigned (s : List ℕ) (i : ℕ) : Type 0 where
+  pub sign : i ≡ afterSign s i
+  pub minus : eqb (getD s i 0) 45 ≡ false
+  pub begins : startsNumber (getD s i 0) ≡ true
+
+pub run-unsigned : (s : List ℕ) (i : ℕ) → i < scan isDigit s i → Unsigned s i
+run-unsigned s i h =
+    let first = run-digit s i h .1 in
+    let low = within-ge 48 57 (getD s i 0) (sym first) in
+    let plus : eqb (getD s i 0) 43 ≡ false = ne-eqb (getD s i 0) 43 (λ e. omega arith) in
+    let none : eqb (getD s i 0) 45 ≡ false = ne-eqb (getD s i 0) 45 (λ e. omega arith) in
+    record { sign = sign-no s i {r = isSign (getD s i 0)} refl (simp (plus, none)); minus = none; begins = simp first }
+
+starts-inside : (s : List ℕ) (i : ℕ) → startsNumber (getD s i 0) ≡ true → i < length s
+unfolding within
+starts-inside s i e =
+    ⊎-elim
+    (λ (l : i < length s). l)
+    (λ (l : length s ≤ i). absurd (true≢false (sym (simp (List·getD-eq-default s 0 l) at e))))
+    (lt-or-le i (length s))
+
+or-true : (t : Bool) → (t || true) ≡ true
+or-true true = refl
+or-true false = refl
+
+-- what is well formed begins with a digit, sign or dot
+pub formed-starts : (s : List ℕ) (i : ℕ) → (mantissaAt s (afterSign s i)) .ok ≡ true → startsNumber (getD s i 0) ≡ true
+unfolding afterSign mantissaAt mantissaDot
+formed-starts s i o =
+    either (isSign (getD s i 0))
+    (λ e. simp e (or-true (isDigit (getD s i 0))))
+    (λ e.
+    ⊎-elim
+    (λ (h : i < scan isDigit s i). simp (run-digit s i h .1))
+    (λ (h : scan isDigit s i ≤ i).
+    let here : scan isDigit s i ≡ i = omega (arith, scan-ge isDigit s i) in
+    either (eqb (getD s i 0) 46)
+    (λ f. simp (e, f) (or-true (isDigit (getD s i 0))))
+    (λ f. absurd (true≢false (sym (simp (e, here, f, le-ltb i i (omega arith)) at o)))))
+    (lt-or-le i (scan isDigit s i)))
+
+pub number-begins : (s : List ℕ) (at : ℕ) {i : ℕ} {r : NumberRead} → i ≡ scan isSpace s at → startsNumber (getD s i 0) ≡ true → r ≡ numberFrom s i → r ≡ parseNumber s at
+number-begins s at {i} z e x = skipped-read s at z (rest-begun s i (skipped-still s at z) (starts-inside s i e) {t = true} (sym e) refl x)
+
 -- digits alone, after spaces
 module _ (s : List ℕ) (at : ℕ) {i last n x : ℕ} {t : Bool} (z : i ≡ scan isSpace s at) (d : last ≡ scan isDigit s i) (v : n ≡ min cap (value 0 (drop i s))) (y : x ≡ getD s last 0) (w : t ≡ not (eqb x 46 || (eqb x 101 || eqb x 69))) (h : (ltb i last && (ltb n cap && t)) ≡ true) where
   pub digits-small : n < cap
@@ -332,14 +385,8 @@ module _ (s : List ℕ) (at : ℕ) {i last n x : ℕ} {t : Bool} (z : i ≡ scan
       let some : ltb i last ≡ true = and-first (ltb i last) (ltb n cap && t) h in
       let after : t ≡ true = and-second (ltb n cap) t (and-second (ltb i last) (ltb n cap && t) h) in
       let all : (t && (ltb i last && ltb n cap)) ≡ true = simp (after, some, lt-ltb n cap digits-small) in
-      let first = run-digit s i (rw (← d) (ltb-true i last some)) in
-      let low = within-ge 48 57 (getD s i 0) (sym (first .1)) in
-      let plus : eqb (getD s i 0) 43 ≡ false = ne-eqb (getD s i 0) 43 (λ e. omega arith) in
-      let minus : eqb (getD s i 0) 45 ≡ false = ne-eqb (getD s i 0) 45 (λ e. omega arith) in
-      let sign : i ≡ afterSign s i = sign-no s i {r = isSign (getD s i 0)} refl (simp (plus, minus)) in
-      let begins : startsNumber (getD s i 0) ≡ true = simp (first .1) in
-      let number : r ≡ numberFrom s i = whole-read s i {b = getD s i 0} refl sign d v y w all (simp minus g) in
-      skipped-read s at z (rest-begun s i (skipped-still s at z) (first .0) {t = true} (sym begins) refl number)
+      let first : Unsigned s i = run-unsigned s i (rw (← d) (ltb-true i last some)) in
+      number-begins s at z (first .begins) (whole-read s i {b = getD s i 0} refl (first .sign) d v y w all (simp (first .minus) g))
 
 pub ruleset plains = (digits-small, digits-read, skipped-still, skipped-read)
 

@@ -1,11 +1,12 @@
 -- What the code holds of a value: no more than the cap; a number of digits alone, and one of digits and a fraction. Only contracts inside the crate speak of it.
 use Prim.Native.Nat.{ℕ, _+_, _-_, _*_, min}
 use mathlib.Core.Bool.{Bool, true, false, _&&_, _||_, not}
+use mathlib.Core.List.{List}
 use lib.Dec.{leb, ltb, eqb}
 use Rattle.stream.specs.Faults.{place}
 use Rattle.numbers.specs.Digits.{cap}
 use Rattle.numbers.specs.declared.Mantissa.{Mantissa}
-use Rattle.numbers.specs.Number.{valueOf}
+use Rattle.numbers.specs.Number.{valueOf, exponentAt}
 use Rattle.numbers.specs.declared.Exponent.{Exponent}
 use Rattle.numbers.specs.declared.NumberRead.{NumberRead}
 use Rattle.numbers.specs.declared.NumberRead.the-variants as N
@@ -31,3 +32,7 @@ isDecimal m b = (m .ok && m .dotted) && (ltb (m .value) cap && (leb (m .fraction
 -- a number of digits and a fraction
 abbrev pub decimalNumber : Bool → Mantissa → NumberRead
 decimalNumber minus m = N.Value (record { value = valueOf minus (m .value) true (m .fraction); whole = false; end = place (m .end) }) (place (m .end))
+
+-- whether digits with a fraction are told at once: well formed, with M and the scale in bounds and no exponent after them
+abbrev pub isTold : List ℕ → Mantissa → Bool
+isTold s m = m .ok && (ltb (m .value) cap && (leb (m .fraction) 22 && not ((exponentAt s (m .end)) .written)))

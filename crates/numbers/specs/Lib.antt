@@ -3,4 +3,5 @@ pub mod Powers
 pub mod Moves
 pub mod Number
 pub mod Held
+pub mod Quick
 pub mod Decimal

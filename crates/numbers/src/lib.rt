@@ -8,12 +8,23 @@ ghost use lib.ListN.{drop, length};
 ghost use Rattle.stream.specs.Bytes.{isDigit, isSpace};
 ghost use Rattle.stream.specs.Scan.{scan};
 ghost use Rattle.numbers.specs.Digits.{cap, value};
-ghost use Rattle.numbers.specs.Powers.{powerOf};
-ghost use Rattle.numbers.specs.Held.{push, heldMantissa, heldExponent, wholeNumber, isDecimal, decimalNumber};
-ghost use Rattle.numbers.specs.Number.{startsNumber, afterSign, mantissaAt, exponentFrom, noExponent, exponentAt, scaleOf, valueOf, refusedAt, scaled, finished, parseNumber, parseNumberOrPercent, afterItem, parseListNumber, parseListNumberOrPercent};
+ghost use Rattle.numbers.specs.Held.{wholeNumber, isDecimal, decimalNumber};
+ghost use Rattle.numbers.specs.Number.{startsNumber, scaleOf, valueOf, refusedAt, scaled, finished, parseNumber, parseNumberOrPercent, afterItem, parseListNumber, parseListNumberOrPercent};
 use stream::Fault;
 use stream::Place;
 use stream::Trouble;
+
+mod digits;
+mod flat;
+
+use digits::LIMIT;
+use digits::after_sign;
+use digits::exponent_at;
+use digits::mantissa_at;
+use digits::read_digits;
+use digits::small_power;
+pub use flat::quick_number;
+pub use flat::quick_whole;
 
 // A number: its value, whether it was written with neither dot nor exponent, and where its own text ended.
 pub struct Number {
@@ -28,8 +39,14 @@ pub enum NumberRead {
     Refused(Fault),
 }
 
+// A number that is told at once: `end` is where its own text ended, 0 where nothing is told.
+pub struct Quick {
+    pub value: f64,
+    pub end: usize,
+}
+
 // A run of digits: where it ends, and its value, held at 2^53.
-struct Digits {
+struct Run {
     end: usize,
     value: u64,
 }
@@ -57,188 +74,10 @@ struct Scale {
     by: u64,
 }
 
-// 2^53, which M stays below.
-const LIMIT: u64 = 9_007_199_254_740_992;
-
-// The powers of ten that an f64 holds exactly.
-const POWERS: [f64; 23] = [
-    1.0,
-    1e1,
-    1e2,
-    1e3,
-    1e4,
-    1e5,
-    1e6,
-    1e7,
-    1e8,
-    1e9,
-    1e10,
-    1e11,
-    1e12,
-    1e13,
-    1e14,
-    1e15,
-    1e16,
-    1e17,
-    1e18,
-    1e19,
-    1e20,
-    1e21,
-    1e22,
-];
-
-fn power(k: usize) -> f64
-    requires { ⌜ k < 23 ⌝ }
-    ensures { λ r. ⌜ r ≡ powerOf k ⌝ }
-{
-    POWERS[k]
-}
-
-// Most fractions are short: their powers are told without the table.
-fn small_power(k: usize) -> f64
-    requires { ⌜ k < 23 ⌝ }
-    ensures { λ r. ⌜ r ≡ powerOf k ⌝ }
-{
-    if k == 1 {
-        return 10.0;
-    }
-    if k == 2 {
-        return 100.0;
-    }
-    if k == 3 {
-        return 1000.0;
-    }
-    if k == 4 {
-        return 10000.0;
-    }
-    if k == 5 {
-        return 100000.0;
-    }
-    if k == 6 {
-        return 1000000.0;
-    }
-    power(k)
-}
-
-// One digit more; at 2^53 the value is held, so that no run of digits overflows.
-fn push_digit(a: u64, b: u8) -> u64
-    requires { ⌜ (a ≤ cap) × (true ≡ isDigit b) ⌝ }
-    ensures { λ r. ⌜ r ≡ push a b ⌝ }
-{
-    let n = a * 10 + ((b - b'0') as u64);
-    if n < LIMIT {
-        return n;
-    }
-    LIMIT
-}
-
-fn read_digits(text: &[u8], at: usize, a: u64) -> Digits
-    requires { ⌜ a ≤ cap ⌝ }
-    ensures { λ r. ⌜ (r .end ≡ scan isDigit (now (text .entry)) at) × (r .value ≡ min cap (value a (drop at (now (text .entry))))) ⌝ }
-{
-    let mut i = at;
-    let mut n = a;
-    while i < text.len() {
-        let b = text[i];
-        if stream::is_digit(b) {
-            n = push_digit(n, b);
-            i += 1;
-        } else {
-            return Digits { end: i, value: n };
-        }
-    }
-    Digits { end: i, value: n }
-}
-
 fn starts_number(b: u8) -> bool
     ensures { λ r. ⌜ r ≡ startsNumber b ⌝ }
 {
     stream::is_digit(b) | (stream::is_sign(b) | (b == b'.'))
-}
-
-fn after_sign(text: &[u8], at: usize) -> usize
-    ensures { λ r. ⌜ r ≡ afterSign (now (text .entry)) at ⌝ }
-{
-    if at < text.len() {
-        if stream::is_sign(text[at]) {
-            return at + 1;
-        }
-    }
-    at
-}
-
-// The mantissa whose first run of digits has been read.
-fn mantissa_at(text: &[u8], at: usize, whole: Digits) -> Mantissa
-    requires { ⌜ whole .end ≡ scan isDigit (now text) at ⌝ }
-    requires { ⌜ whole .value ≡ min cap (value 0 (drop at (now text))) ⌝ }
-    ensures { λ r. ⌜ r ≡ heldMantissa (mantissaAt (now (text .entry)) at) ⌝ }
-{
-    let dot = whole.end;
-    let n = whole.value;
-    if stream::byte_at(text, dot) == b'.' {
-        let next = dot + 1;
-        let part = read_digits(text, next, n);
-        let end = part.end;
-        return Mantissa {
-            ok: next < end,
-            value: part.value,
-            fraction: end - next,
-            dotted: true,
-            end,
-        };
-    }
-    Mantissa {
-        ok: at < dot,
-        value: n,
-        fraction: 0,
-        dotted: false,
-        end: dot,
-    }
-}
-
-fn exponent_from(text: &[u8], from: usize, minus: bool) -> Exponent
-    ensures { λ r. ⌜ r ≡ heldExponent (exponentFrom (now (text .entry)) from minus) ⌝ }
-{
-    let d = read_digits(text, from, 0);
-    let end = d.end;
-    Exponent {
-        ok: from < end,
-        minus,
-        value: d.value,
-        written: true,
-        end,
-    }
-}
-
-fn no_exponent(at: usize) -> Exponent
-    ensures { λ r. ⌜ r ≡ noExponent at ⌝ }
-{
-    Exponent {
-        ok: true,
-        minus: false,
-        value: 0,
-        written: false,
-        end: at,
-    }
-}
-
-fn exponent_at(text: &[u8], at: usize) -> Exponent
-    ensures { λ r. ⌜ r ≡ heldExponent (exponentAt (now (text .entry)) at) ⌝ }
-{
-    if text.len() <= at {
-        return no_exponent(at);
-    }
-    let b = text[at];
-    if !((b == b'e') | (b == b'E')) {
-        return no_exponent(at);
-    }
-    let next = at + 1;
-    let c = stream::byte_at(text, next);
-    // `em` and `ex` are units
-    if (c == b'm') | (c == b'x') {
-        return no_exponent(at);
-    }
-    exponent_from(text, after_sign(text, next), c == b'-')
 }
 
 fn scale_of(minus: bool, e: u64, f: u64) -> Scale
@@ -356,13 +195,13 @@ fn is_e(b: u8) -> bool
 }
 
 // The digits at `from`: without a sign before them they are those that were read at `i`.
-fn digits_after(text: &[u8], i: usize, from: usize, last: usize, n: u64) -> Digits
+fn digits_after(text: &[u8], i: usize, from: usize, last: usize, n: u64) -> Run
     requires { ⌜ last ≡ scan isDigit (now text) i ⌝ }
     requires { ⌜ n ≡ min cap (value 0 (drop i (now text))) ⌝ }
     ensures { λ r. ⌜ (r .end ≡ scan isDigit (now (text .entry)) from) × (r .value ≡ min cap (value 0 (drop from (now (text .entry))))) ⌝ }
 {
     if from == i {
-        return Digits {
+        return Run {
             end: last,
             value: n,
         };

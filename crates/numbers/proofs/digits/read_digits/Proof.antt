@@ -2,8 +2,8 @@ use Rattle.numbers.proofs.Sums.{Summing, summed}
 use lib.ListN.{length}
 use Prim.Native.Nat.{_-_}
 use borrow.Author.Needs.{needs}
-use Rattle.numbers.proofs.read_digits.Statement.{statement}
-use Rattle.numbers.proofs.read_digits.Tie as tie
+use Rattle.numbers.proofs.digits.read_digits.Statement.{statement}
+use Rattle.numbers.proofs.digits.read_digits.Tie as tie
 
 abbrev Inv-loop : tie.InvT-loop
 Inv-loop text at a i₀ n₀ i n = Summing text a i₀ i n

@@ -1,8 +1,8 @@
 use Rattle.numbers.specs.Powers.{powerOf, powerBits}
 use mathlib.Core.Path.{refl}
 use borrow.Author.Needs.{needs}
-use Rattle.numbers.proofs.power.Statement.{statement}
-use Rattle.numbers.proofs.power.Tie as tie
+use Rattle.numbers.proofs.digits.power.Statement.{statement}
+use Rattle.numbers.proofs.digits.power.Tie as tie
 
 pub power-spec : {M : Type 1} → statement M
 power-spec =

@@ -1,7 +1,7 @@
 use Rattle.numbers.proofs.Steps.{signs}
 use borrow.Author.Needs.{needs}
-use Rattle.numbers.proofs.after_sign.Statement.{statement}
-use Rattle.numbers.proofs.after_sign.Tie as tie
+use Rattle.numbers.proofs.digits.after_sign.Statement.{statement}
+use Rattle.numbers.proofs.digits.after_sign.Tie as tie
 
 pub after-sign-spec : {M : Type 1} → statement M
 after-sign-spec =

@@ -2,8 +2,8 @@ use Rattle.stream.proofs.Scans.{from-scan}
 use Rattle.stream.proofs.Parts.{next-fits}
 use Rattle.numbers.proofs.Steps.{mantissas}
 use borrow.Author.Needs.{needs}
-use Rattle.numbers.proofs.mantissa_at.Statement.{statement}
-use Rattle.numbers.proofs.mantissa_at.Tie as tie
+use Rattle.numbers.proofs.digits.mantissa_at.Statement.{statement}
+use Rattle.numbers.proofs.digits.mantissa_at.Tie as tie
 
 pub mantissa-at-spec : {M : Type 1} → statement M
 mantissa-at-spec =

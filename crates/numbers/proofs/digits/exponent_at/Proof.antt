@@ -1,7 +1,7 @@
 use Rattle.numbers.proofs.Steps.{exponents}
 use borrow.Author.Needs.{needs}
-use Rattle.numbers.proofs.exponent_at.Statement.{statement}
-use Rattle.numbers.proofs.exponent_at.Tie as tie
+use Rattle.numbers.proofs.digits.exponent_at.Statement.{statement}
+use Rattle.numbers.proofs.digits.exponent_at.Tie as tie
 
 pub exponent-at-spec : {M : Type 1} → statement M
 exponent-at-spec =

@@ -1,7 +1,7 @@
 use Rattle.numbers.specs.Powers.{powerOf, powerBits}
 use borrow.Author.Needs.{needs}
-use Rattle.numbers.proofs.small_power.Statement.{statement}
-use Rattle.numbers.proofs.small_power.Tie as tie
+use Rattle.numbers.proofs.digits.small_power.Statement.{statement}
+use Rattle.numbers.proofs.digits.small_power.Tie as tie
 
 pub small-power-spec : {M : Type 1} → statement M
 small-power-spec =

@@ -1,8 +1,8 @@
 use Rattle.stream.proofs.Ranges.{within-ge}
 use native.Mathlib.Omega.{arith}
 use borrow.Author.Needs.{needs}
-use Rattle.numbers.proofs.push_digit.Statement.{statement}
-use Rattle.numbers.proofs.push_digit.Tie as tie
+use Rattle.numbers.proofs.digits.push_digit.Statement.{statement}
+use Rattle.numbers.proofs.digits.push_digit.Tie as tie
 
 pub push-digit-spec : {M : Type 1} → statement M
 push-digit-spec =
