@@ -1,22 +1,23 @@
--- What is told by the first bytes: a link is no keyword, and neither is a text that is `#` and digits, of which nothing is trimmed.
+-- What is told by the first byte: a link is no keyword, and neither is a text that is `#` and digits; and by the first and the last, that nothing is trimmed.
 use Prim.Native.Nat.{ℕ, _+_, _-_, _<_}
 use mathlib.Core.Bool.{Bool, true, false, _&&_}
 use mathlib.Core.List.{List, [], _∷_}
 use mathlib.Core.Path.{_≡_, refl, sym, _∙_}
 use native.Mathlib.Omega.{arith}
-use borrow.Author.Tests.{eqb-true, le-leb}
-use lib.Dec.{eqb, leb}
+use borrow.Author.Tests.{eqb-true}
+use lib.Dec.{eqb}
 use lib.ListN.{length, getD, take, drop}
 use lib.Seq.{take-all}
-use Rattle.stream.specs.Blanks.{blank1, blank2, blank3, blankLen, blankAt, byteBefore, blankEnd, blankBefore, front, trimStart, back, trimEnd, trimOf}
+use Rattle.stream.specs.Blanks.{blank1, blank2, blank3, blankLen, blankAt, byteBefore, blankEnd, blankBefore, front, trimStart, back, trimEnd, trimPart, trimOf}
 use Rattle.stream.specs.Bytes.{within}
 use Rattle.stream.specs.Characters.{keeps, rowOf, lenAt, charLen, walk, utf8Of}
 use Rattle.stream.specs.Flow.{bind}
 use Rattle.stream.specs.Refusals.{admitUtf8, admitText}
 use Rattle.stream.specs.Words.{ascii, same, startsWith}
-use Rattle.stream.proofs.Octets.{and-first}
-use Rattle.stream.proofs.Ranges.{within-yes}
-use Rattle.stream.proofs.Trimming.{plain-len, plain-end, front-start, front-stop, back-start, back-stop}
+use Rattle.stream.specs.declared.Part.{Part}
+use Rattle.stream.proofs.Octets.{and-first, and-second}
+use Rattle.stream.proofs.Ranges.{within-yes, within-ge, within-le}
+use Rattle.stream.proofs.Trimming.{plain-len, front-start, front-stop, trim-whole}
 use Rattle.stream.proofs.Wording.{same-eq}
 use Rattle.color.specs.Flat.{hexAlone}
 use Rattle.color.specs.declared.Color.{Color}
@@ -71,22 +72,30 @@ none-text = refl
 pub none-alone : (s : List ℕ) {r : Bool} → r ≡ same s (ascii "none") → r ≡ true → A.Value P.None ≡ fromStr s
 none-alone s q e = rw (same-eq s (ascii "none") (sym q ∙ e)) none-text
 
--- a text whose ends are plain is not trimmed
-module _ (s : List ℕ) (h : 0 < length s) (f : true ≡ within 33 127 (getD s 0 0)) (l : true ≡ within 33 127 (getD s (length s - 1) 0)) where
+plain : (b : ℕ) → true ≡ within 33 126 b → within 33 127 b ≡ true
+plain b e = sym (within-yes 33 127 b (within-ge 33 126 b e) (omega (arith, within-le 33 126 b e)))
+
+-- a text whose ends are visible ASCII characters is not trimmed
+module _ (s : List ℕ) (h : 0 < length s) (f : true ≡ within 33 126 (getD s 0 0)) (l : true ≡ within 33 126 (getD s (length s - 1) 0)) where
   start-kept : trimStart s ≡ 0
   unfolding blankAt
-  start-kept = sym (front-stop (front-start s) (plain-len (getD s 0 0) (getD s 1 0) (getD s 2 0) f refl) h refl)
+  start-kept = sym (front-stop (front-start s) (plain-len (getD s 0 0) (getD s 1 0) (getD s 2 0) refl (plain (getD s 0 0) f)) h refl)
 
   end-kept : trimEnd s ≡ length s
-  unfolding blankBefore byteBefore
-  end-kept =
-      let k : leb 1 (length s) ≡ true = le-leb 1 (length s) h in
-      let p : 0 ≡ blankBefore s (length s) = simp k (plain-end (getD s (length s - 1) 0) (byteBefore s (length s) 2) (byteBefore s (length s) 3) l refl) in
-      sym (back-stop (back-start s) p refl)
+  end-kept = trim-whole s h (plain (getD s (length s - 1) 0) l)
 
   trim-kept : trimOf s ≡ s
   unfolding trimOf
   trim-kept = simp (start-kept, end-kept) (take-all (length s) s (omega arith))
+
+  part-kept : _≡_ {A = Part} (record { start = record { 0 = 0 }; len = length s }) (trimPart s)
+  unfolding trimPart
+  part-kept = simp (start-kept, end-kept)
+
+-- the same by the tests of its ends: r and q are what they answered
+pub inked-part : (s : List ℕ) {r q : Bool} → 0 < length s → r ≡ within 33 126 (getD s 0 0) → q ≡ within 33 126 (getD s (length s - 1) 0) → (r && q) ≡ true
+    → _≡_ {A = Part} (record { start = record { 0 = 0 }; len = length s }) (trimPart s)
+inked-part s {r} {q} h f l e = part-kept s h (sym (and-first r q e) ∙ f) (sym (and-second r q e) ∙ l)
 
 -- `#` and digits alone: r is what the try answered
 pub hex-paint : (s : List ℕ) {c : Color} {r : HexTry} → r ≡ hexAlone s → r ≡ H.Digits c → A.Value (P.Color c) ≡ fromStr s
@@ -95,8 +104,8 @@ hex-paint s {c} q e =
     let v = alone s q e in
     let b = v .first in
     let z = v .last in
-    let f : true ≡ within 33 127 (getD s 0 0) = within-yes 33 127 (getD s 0 0) (omega arith) (omega arith) in
-    let l : true ≡ within 33 127 (getD s (length s - 1) 0) = within-yes 33 127 (getD s (length s - 1) 0) (omega (arith, hex-low _ z)) (omega (arith, hex-high _ z)) in
+    let f : true ≡ within 33 126 (getD s 0 0) = within-yes 33 126 (getD s 0 0) (omega arith) (omega arith) in
+    let l : true ≡ within 33 126 (getD s (length s - 1) 0) = within-yes 33 126 (getD s (length s - 1) 0) (omega (arith, hex-low _ z)) (omega (arith, hex-high _ z)) in
     let t : trimOf s ≡ s = trim-kept s (v .some) f l in
     let n : (w : ℕ) (ws : List ℕ) → eqb 35 w ≡ false → same s (w ∷ ws) ≡ false = λ w ws k. not-same s w ws (rw b k) in
     let u : startsWith (ascii "url(") s ≡ false = not-starts s 117 (ascii "rl(") (rw b refl) in

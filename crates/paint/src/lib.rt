@@ -3,6 +3,7 @@ ghost use mathlib.Core.Path.{_≡_};
 ghost use Prim.Native.Nat.{_≤_};
 ghost use lib.ListN.{length};
 ghost use Rattle.stream.specs.Blanks.{trimPart};
+ghost use Rattle.stream.specs.Bytes.{within};
 ghost use Rattle.paint.specs.Moves.{linkStart, movePaint};
 ghost use Rattle.stream.specs.Moves.{movePart};
 ghost use Rattle.paint.specs.Reading.{parseFallback, parseLinked, parsePlain, parsePaint};
@@ -174,6 +175,29 @@ fn trim_anew(text: &[u8]) -> Part
     stream::trim(&text[0..])
 }
 
+// A byte that is no part of white space: a visible ASCII character.
+fn is_inked(b: u8) -> bool
+    ensures { λ r. ⌜ r ≡ within 33 126 b ⌝ }
+{
+    (b'!' <= b) & (b <= b'~')
+}
+
+// Most texts have nothing to trim, which their first and last byte tell.
+fn quick_trim(text: &[u8]) -> Part
+    ensures { λ r. ⌜ r ≡ trimPart (now (text .entry)) ⌝ }
+{
+    let len = text.len();
+    if 0 < len {
+        if is_inked(text[0]) & is_inked(text[len - 1]) {
+            return Part {
+                start: Place(0),
+                len,
+            };
+        }
+    }
+    trim_anew(text)
+}
+
 // A paint as a whole text, by what holds of any text.
 fn from_any(text: &[u8]) -> PaintAnswer
     ensures { λ r. ⌜ r ≡ fromStr (now (text .entry)) ⌝ }
@@ -181,7 +205,7 @@ fn from_any(text: &[u8]) -> PaintAnswer
     match stream::admit_text(text) {
         Admission::Refused(refusal) => PaintAnswer::Refused(refusal),
         Admission::Admitted => {
-            let part = trim_anew(text);
+            let part = quick_trim(text);
             let start = part.start;
             let a = start.0;
             let len = part.len;
