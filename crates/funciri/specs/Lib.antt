@@ -1,4 +1,5 @@
 pub mod Link
 pub mod Moves
+pub mod Quick
 pub mod Answers
 pub mod Paper

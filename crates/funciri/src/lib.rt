@@ -1,8 +1,12 @@
 // Links: `#name`, and `url(#name)` with or without quotes.
 ghost use mathlib.Core.Path.{_≡_};
+ghost use mathlib.Core.Bool.{true, _&&_, cond};
+ghost use lib.Dec.{ltb};
+ghost use lib.ListN.{length};
 ghost use Rattle.stream.specs.Characters.{utf8Of};
 ghost use Rattle.stream.specs.declared.Utf8.the-variants as Utf8;
 ghost use Rattle.funciri.specs.Link.{isQuote, hasQuote, isLink, closeLink, closeQuote, quotedLink, plainLink, parseIri, parseFuncIri, linkBytes};
+ghost use Rattle.funciri.specs.Quick.{orTold};
 ghost use Rattle.funciri.specs.Answers.{wholeLink, iriFromStr, funcIriFromStr};
 use stream::Admission;
 use stream::Consumed;
@@ -98,6 +102,21 @@ pub fn parse_func_iri(text: &[u8], at: Place) -> LinkRead
             plain_link(text, first)
         }
     }
+}
+
+// The place of the bracket that ends `url(#name)` at the start of a text, the name of bytes that no reader has to judge; 0 where nothing is told.
+pub fn quick_link(text: &[u8]) -> usize
+    ensures { λ r. ⌜ orTold r (parseFuncIri (now (text .entry)) 0) ≡ parseFuncIri (now (text .entry)) 0 ⌝ }
+    ensures { λ r. ⌜ cond (ltb 0 r) (ltb 5 r && ltb r (length (now (text .entry)))) true ≡ true ⌝ }
+{
+    if stream::begins(text, b"url(#") {
+        let q = stream::skip_bare(text, Place(5));
+        let e = q.0;
+        if (5 < e) & stream::is_curr_byte_eq(text, q, b')') {
+            return e;
+        }
+    }
+    0
 }
 
 // What follows the opening quote.

@@ -1,5 +1,5 @@
 -- Rules for `search`: the returns of the readers and of the outside calls.
-use Prim.Native.Nat.{ℕ, _-_, _≤_}
+use Prim.Native.Nat.{ℕ, _+_, _-_, _≤_, _<_}
 use mathlib.Core.Bool.{Bool, true, false, cond}
 use mathlib.Core.List.{List, []}
 use mathlib.Core.Path.{_≡_, refl, sym, ap, _∙_}
@@ -8,6 +8,7 @@ use lib.ListN.{length, take, drop, length-drop}
 use lib.Seq.{length-take-le}
 use Rattle.stream.specs.Blanks.{trimStart, trimEnd, trimPart, trimOf}
 use Rattle.stream.specs.Characters.{utf8Of}
+use Rattle.stream.specs.Faults.{place}
 use Rattle.stream.specs.Moves.{movePart}
 use Rattle.stream.specs.Refusals.{refusalOf}
 use Rattle.stream.specs.declared.Fault.{Fault}
@@ -19,9 +20,13 @@ use Rattle.stream.proofs.Cuts.{trim-utf8, utf8-drop}
 use Rattle.stream.proofs.Edges.{admitted-small, admitted-utf8}
 use Rattle.stream.proofs.Parts.{rest-part}
 use Rattle.stream.proofs.Trimming.{trimStart-le, trimEnd-le, trim-count}
+use Rattle.funciri.specs.Link.{linkAt, parseFuncIri}
+use Rattle.funciri.specs.Quick.{orTold}
+use Rattle.funciri.proofs.Told.{told-read, told-past, told-next}
 use Rattle.paint.specs.Answers.{isInherit, fromStr, inheritedOf, bytesOf, chosenBytes, inheritedPart}
+use Rattle.paint.specs.Linked.{afterLink}
 use Rattle.paint.specs.Moves.{linkStart, movePaint, thenPaintRead, thenPaintAnswer}
-use Rattle.paint.specs.Reading.{parseFallback, parsePaint}
+use Rattle.paint.specs.Reading.{parseFallback, parseLinked, parsePaint}
 use Rattle.paint.specs.declared.Inheritance.{Inheritance}
 use Rattle.paint.specs.declared.Inheritance.the-variants as I
 use Rattle.paint.specs.declared.Paint.{Paint}
@@ -44,6 +49,13 @@ pub fallback-part : (t : List ℕ) (i : ℕ) (l : Part) (b : Place) {r : PaintRe
 fallback-part t i l b h = rw rest-part at h
 
 pub ruleset reads = (paint-refused, fallback-part)
+
+-- a link that is told at once, with its bracket at e
+pub linked-told : (t : List ℕ) (e : ℕ) {x : PaintRead} → 0 < e → orTold e (parseFuncIri t 0) ≡ parseFuncIri t 0 → x ≡ afterLink t (linkAt (place 5) (e - 5)) (place (e + 1)) → x ≡ parseLinked t
+unfolding parseLinked
+linked-told t e h q f = rw (told-read t e h q) f
+
+pub ruleset quick = (linked-told, told-past, told-next)
 
 module _ (l : Part) (v : Paint) (f : PaintFallback) (e : v ≡ P.FuncIRI l f) where
   pub link-near : linkStart v ≤ 4096 → l .start .0 ≤ 4096

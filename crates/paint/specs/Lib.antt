@@ -1,4 +1,5 @@
 pub mod Moves
 pub mod Reading
+pub mod Linked
 pub mod Answers
 pub mod Paper

@@ -7,6 +7,7 @@ ghost use Rattle.stream.specs.Bytes.{within};
 ghost use Rattle.paint.specs.Moves.{linkStart, movePaint};
 ghost use Rattle.stream.specs.Moves.{movePart};
 ghost use Rattle.paint.specs.Reading.{parseFallback, parseLinked, parsePlain, parsePaint};
+ghost use Rattle.paint.specs.Linked.{afterLink};
 ghost use Rattle.paint.specs.Answers.{isInherit, fromStr, inheritedOf, inheritedPart};
 use color::Color;
 use color::ColorRead;
@@ -83,20 +84,34 @@ fn parse_linked(text: &[u8]) -> PaintRead
     requires { ⌜ length (now text) ≤ 4096 ⌝ }
     ensures { λ r. ⌜ r ≡ parseLinked (now (text .entry)) ⌝ }
 {
+    let q = funciri::quick_link(text);
+    if 0 < q {
+        let link = Part {
+            start: Place(5),
+            len: q - 5,
+        };
+        return after_link(text, link, Place(q + 1));
+    }
     match funciri::parse_func_iri(text, Place(0)) {
         LinkRead::Refused(fault) => {
             let at = fault.at;
             PaintRead::Refused(stream::invalid_value(at), Place(0))
         }
-        LinkRead::Link(link, end) => {
-            let base = stream::skip_spaces(text, end);
-            let i = base.0;
-            if text.len() <= i {
-                return PaintRead::Value(Paint::FuncIRI(link, PaintFallback::Absent));
-            }
-            parse_fallback(&text[i..], link, base)
-        }
+        LinkRead::Link(link, end) => after_link(text, link, end),
     }
+}
+
+// What follows a link: nothing, or a fallback.
+fn after_link(text: &[u8], link: Part, end: Place) -> PaintRead
+    requires { ⌜ length (now text) ≤ 4096 ⌝ }
+    ensures { λ r. ⌜ r ≡ afterLink (now (text .entry)) link end ⌝ }
+{
+    let base = stream::skip_spaces(text, end);
+    let i = base.0;
+    if text.len() <= i {
+        return PaintRead::Value(Paint::FuncIRI(link, PaintFallback::Absent));
+    }
+    parse_fallback(&text[i..], link, base)
 }
 
 // A colour without a link. A number outside the domain is the one fault that is not swallowed.
