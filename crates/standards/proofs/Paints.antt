@@ -4,7 +4,7 @@ use mathlib.Core.Bool.{Bool, true, false}
 use mathlib.Core.List.{List, [], _∷_, _++_, append-assoc, append-nil}
 use mathlib.Core.Path.{_≡_, refl, sym, ap, _∙_}
 use native.Mathlib.Omega.{arith}
-use borrow.Author.Tests.{eqb-true, ne-eqb, le-leb, lt-leb, ltb-true}
+use borrow.Author.Tests.{ne-eqb, le-leb, lt-leb, ltb-true}
 use lib.Dec.{T, eqb, leb, ltb}
 use lib.ListN.{length, getD, drop, length-append, length-map}
 use lib.Seq.{drop-at, take-at}
@@ -15,7 +15,6 @@ use Rattle.stream.specs.Flow.{bind}
 use Rattle.stream.specs.Scan.{scan, run}
 use Rattle.stream.specs.Words.{ascii, startsWith, same, lowerOf, part}
 use Rattle.stream.specs.declared.Part.{Part}
-use Rattle.stream.proofs.Octets.{and-first, and-second}
 use Rattle.stream.proofs.Ranges.{either}
 use Rattle.names.specs.Keywords.{keywords}
 use Rattle.names.specs.Look.{lookUp, namedOf}
@@ -24,6 +23,7 @@ use Rattle.color.specs.declared.Color.{Color}
 use Rattle.color.specs.declared.ColorRead.{ColorRead}
 use Rattle.color.specs.declared.ColorRead.the-variants as C
 use Rattle.funciri.specs.Link.{linkAt, linkBytes}
+use Rattle.funciri.proofs.Told.{begins-with}
 use Rattle.paint.specs.Answers.{fromStr}
 use Rattle.paint.specs.Moves.{movePaint}
 use Rattle.paint.specs.Reading.{parseFallback, parseLinked, parsePlain, parsePaint}
@@ -86,16 +86,6 @@ paintOf channels at S.context-fill = P.ContextFill
 paintOf channels at S.context-stroke = P.ContextStroke
 paintOf channels at (S.plain c) = P.Color (channels c)
 paintOf channels at (S.linked u f) = P.FuncIRI (linkAt (place (at + length (opening u))) (length (name u))) (fallbackOf channels f)
-
--- a text that begins with a word is the word and a rest
-begins-with : (w s : List ℕ) → startsWith w s ≡ true → s ≡ w ++ drop (length w) s
-unfolding startsWith
-begins-with [] s e = refl
-begins-with (w ∷ ws) [] e = let z : _≡_ {A = ℕ} 0 1 = cc in absurd (omega arith)
-begins-with (w ∷ ws) (x ∷ xs) e =
-    let p : x ≡ w = eqb-true x w (and-first (eqb x w) (startsWith ws xs) e) in
-    let q : xs ≡ ws ++ drop (length ws) xs = begins-with ws xs (and-second (eqb x w) (startsWith ws xs) e) in
-    cc
 
 module _ {Colour : Type 0} {colour : Colour → List ℕ} {channels : Colour → Color} (k : Coloured colour channels) where
   no-text : (c : Colour) (w : List ℕ) → isRefused (parseColorText w) ≡ true → colour c ≡ w → ⊥
