@@ -1,13 +1,13 @@
 -- The flat path of the hex notation: digits that are tested together are a run, and a run that ends there is a colour.
-use Prim.Native.Nat.{ℕ, zero, suc, _+_, _-_, _*_, _≤_, _<_}
+use Prim.Native.Nat.{ℕ, zero, suc, _+_, _-_, _*_, _/_, _%_, _≤_, _<_}
 use mathlib.Core.Bool.{Bool, true, false, _&&_, not, cond}
 use mathlib.Core.List.{List, [], _∷_}
 use mathlib.Core.Logic.{⊎-elim}
-use mathlib.Core.Path.{_≡_, refl, sym, _∙_}
+use mathlib.Core.Path.{_≡_, refl, sym, ap, _∙_}
 use native.Mathlib.Omega.{arith}
 use borrow.Author.Tests.{not-true, ltb-true, leb-true, eqb-true, lt-ltb, le-ltb, le-leb, lt-leb}
 use lib.Dec.{eqb, leb, ltb}
-use lib.ListN.{length, getD, drop}
+use lib.ListN.{length, getD, take, drop}
 use lib.Seq.{getD-drop}
 use mir.Syntax.{w8}
 use mir.Val.{Fits}
@@ -21,19 +21,18 @@ use Rattle.stream.specs.declared.Admission.the-variants.{Admitted}
 use Rattle.stream.proofs.Ahead.{run-bytes}
 use Rattle.stream.proofs.Edges.{admit-good}
 use Rattle.stream.proofs.Octets.{and-true, and-first, and-second}
+use Rattle.stream.proofs.Parts.{rest-part}
 use Rattle.stream.proofs.Ranges.{either, le-or-lt}
 use Rattle.stream.proofs.Scans.{scan-start, scan-go, scan-stop, scan-end, scan-ge, scan-le}
 use Rattle.stream.proofs.Walks.{ascii-utf8}
 use Rattle.color.specs.Answer.{fromStr}
 use Rattle.color.specs.Color.{rgba, parseColor, parseColorText}
-use Rattle.color.specs.Flat.{hexDigit, sixDigits, threeDigits, hexAlone}
+use Rattle.color.specs.Flat.{packed, noColor, unpacked, hexDigit, sixDigits, threeDigits, hexAlone}
 use Rattle.color.specs.Hex.{fromHex, shortHex, hexPair, shortColor, longColor, parseHex}
 use Rattle.color.specs.declared.Color.{Color}
 use Rattle.color.specs.declared.ColorRead.the-variants as C
 use Rattle.color.specs.declared.ColorAnswer.the-variants as A
-use Rattle.color.specs.declared.HexTry.{HexTry}
-use Rattle.color.specs.declared.HexTry.the-variants as H
-use Rattle.color.proofs.Digits.{hex-high, value-high}
+use Rattle.color.proofs.Digits.{hex-high, value-high, value-none}
 
 -- a channel of two digits
 pub high-fits : (a : ℕ) → a < 16 → Fits w8 (a * 16)
@@ -94,17 +93,17 @@ module _ (s : List ℕ) (at : ℕ) {a b c : ℕ} (p : a ≡ hexDigit (getD s at 
       let e : true ≡ leb (at + 3) (scan isHexDigit s (at + 3)) = sym (le-leb (at + 3) (scan isHexDigit s (at + 3)) (scan-ge isHexDigit s (at + 3))) in
       simp and-true at (from-three (at + 3) e (omega arith) (omega arith))
 
-  pub three-yes : at + 3 ≤ length s → (ltb a 16 && (ltb b 16 && ltb c 16)) ≡ true → H.Digits (rgba (a * 16 + a) (b * 16 + b) (c * 16 + c) 255) ≡ threeDigits s at
+  pub three-yes : {n : ℕ} → at + 3 ≤ length s → (ltb a 16 && (ltb b 16 && ltb c 16)) ≡ true → n ≡ packed (rgba (a * 16 + a) (b * 16 + b) (c * 16 + c) 255) → n ≡ threeDigits s at
   unfolding threeDigits shortColor shortHex
-  three-yes h t =
+  three-yes h t g =
       let e : leb (at + 3) (scan isHexDigit s at) ≡ true = sym (three-test h) ∙ t in
       let l : at + 3 ≤ scan isHexDigit s at = leb-true (at + 3) (scan isHexDigit s at) e in
       let x : fromHex (getD s at 0) ≡ a = value-is s (at + 3) at at a l (omega arith) (omega arith) p in
       let y : fromHex (getD s (at + 1) 0) ≡ b = value-is s (at + 3) at (at + 1) b l (omega arith) (omega arith) q in
       let z : fromHex (getD s (at + 2) 0) ≡ c = value-is s (at + 3) at (at + 2) c l (omega arith) (omega arith) r in
-      simp (e, x, y, z)
+      simp (e, x, y, z) g
 
-  pub three-no : at + 3 ≤ length s → (ltb a 16 && (ltb b 16 && ltb c 16)) ≡ false → H.Other ≡ threeDigits s at
+  pub three-no : at + 3 ≤ length s → (ltb a 16 && (ltb b 16 && ltb c 16)) ≡ false → noColor ≡ threeDigits s at
   unfolding threeDigits
   three-no h t =
       let e : leb (at + 3) (scan isHexDigit s at) ≡ false = sym (three-test h) ∙ t in
@@ -119,10 +118,10 @@ module _ (s : List ℕ) (at : ℕ) {a b c : ℕ} (p : a ≡ hexDigit (getD s at 
         (test-last s (at + 6) (at + 5) f w (omega arith) (omega arith))))
         (omega arith) (omega arith)
 
-    pub six-yes : (ltb a 16 && (ltb b 16 && (ltb c 16 && (ltb d 16 && (ltb e 16 && ltb f 16))))) ≡ true
-        → H.Digits (rgba (a * 16 + b) (c * 16 + d) (e * 16 + f) 255) ≡ sixDigits s at
+    pub six-yes : {n : ℕ} → (ltb a 16 && (ltb b 16 && (ltb c 16 && (ltb d 16 && (ltb e 16 && ltb f 16))))) ≡ true
+        → n ≡ packed (rgba (a * 16 + b) (c * 16 + d) (e * 16 + f) 255) → n ≡ sixDigits s at
     unfolding sixDigits longColor hexPair
-    six-yes t =
+    six-yes t g =
         let k : leb (at + 6) (scan isHexDigit s at) ≡ true = sym six-test ∙ t in
         let l : at + 6 ≤ scan isHexDigit s at = leb-true (at + 6) (scan isHexDigit s at) k in
         let m : at + 2 + 1 ≡ at + 3 = omega arith in
@@ -133,9 +132,9 @@ module _ (s : List ℕ) (at : ℕ) {a b c : ℕ} (p : a ≡ hexDigit (getD s at 
         let i : fromHex (getD s (at + 3) 0) ≡ d = value-is s (at + 6) at (at + 3) d l (omega arith) (omega arith) u in
         let j : fromHex (getD s (at + 4) 0) ≡ e = value-is s (at + 6) at (at + 4) e l (omega arith) (omega arith) v in
         let o : fromHex (getD s (at + 5) 0) ≡ f = value-is s (at + 6) at (at + 5) f l (omega arith) (omega arith) w in
-        simp (k, m, n, x, y, z, i, j, o)
+        simp (k, m, n, x, y, z, i, j, o) g
 
-    pub six-no : (ltb a 16 && (ltb b 16 && (ltb c 16 && (ltb d 16 && (ltb e 16 && ltb f 16))))) ≡ false → H.Other ≡ sixDigits s at
+    pub six-no : (ltb a 16 && (ltb b 16 && (ltb c 16 && (ltb d 16 && (ltb e 16 && ltb f 16))))) ≡ false → noColor ≡ sixDigits s at
     unfolding sixDigits
     six-no t =
         let k : leb (at + 6) (scan isHexDigit s at) ≡ false = sym six-test ∙ t in
@@ -168,9 +167,42 @@ six-low a b c d e f h =
     (k .0, three-low d e f (k .1))
 
 -- a try that found digits passed its test
-digits-if : {c : Color} (t : Bool) (x : HexTry) → H.Digits c ≡ cond t x H.Other → (t ≡ true) × (H.Digits c ≡ x)
-digits-if true x e = (refl, e)
-digits-if false x e = let z : _≡_ {A = ℕ} 0 1 = cc in absurd (omega arith)
+digits-if : (n : ℕ) (t : Bool) (x : ℕ) → n < noColor → n ≡ cond t x noColor → (t ≡ true) × (n ≡ x)
+digits-if n true x l e = (refl, e)
+digits-if n false x l e = absurd (omega arith)
+
+-- a packed colour is that colour again, where its channels are bytes
+module _ (c : Color) (r : c .red < 256) (g : c .green < 256) (b : c .blue < 256) (a : c .alpha < 256) where
+  unpacks : c ≡ unpacked (packed c)
+  unfolding packed unpacked
+  unpacks =
+      let x : packed c % 256 ≡ c .red = omega arith in
+      let i : packed c / 256 ≡ c .green + (c .blue * 256 + c .alpha * 65536) = omega arith in
+      let y : (c .green + (c .blue * 256 + c .alpha * 65536)) % 256 ≡ c .green = omega arith in
+      let j : packed c / 65536 ≡ c .blue + c .alpha * 256 = omega arith in
+      let z : (c .blue + c .alpha * 256) % 256 ≡ c .blue = omega arith in
+      let k : packed c / 16777216 ≡ c .alpha = omega arith in
+      let w : c .alpha % 256 ≡ c .alpha = omega arith in
+      simp (x, i, y, j, z, k, w)
+
+-- any byte's value is that of a digit
+value-below : (b : ℕ) → fromHex b < 16
+value-below b = either (isHexDigit b) (λ e. value-high b e) (λ e. omega (arith, value-none b e))
+
+module _ (s : List ℕ) (at : ℕ) where
+  long-unpacks : longColor s at 255 ≡ unpacked (packed (longColor s at 255))
+  unfolding longColor hexPair
+  long-unpacks = unpacks (longColor s at 255) (pair at) (pair (at + 2)) (pair (at + 4)) (omega arith)
+    where
+      pair : (i : ℕ) → fromHex (getD s i 0) * 16 + fromHex (getD s (i + 1) 0) < 256
+      pair i = omega (arith, value-below (getD s i 0), value-below (getD s (i + 1) 0))
+
+  short-unpacks : shortColor s at 255 ≡ unpacked (packed (shortColor s at 255))
+  unfolding shortColor shortHex
+  short-unpacks = unpacks (shortColor s at 255) (twice at) (twice (at + 1)) (twice (at + 2)) (omega arith)
+    where
+      twice : (i : ℕ) → fromHex (getD s i 0) * 16 + fromHex (getD s i 0) < 256
+      twice i = omega (arith, value-below (getD s i 0))
 
 -- the digits that are tried lie inside
 pub flat-inside : (m n : ℕ) (t : Bool) → (leb m n && not t) ≡ true → m ≤ n
@@ -197,16 +229,16 @@ module _ (s : List ℕ) (at : ℕ) where
   short-read e = let k : at + 3 - at ≡ 3 = omega arith in simp (e, k)
 
   -- six digits that no further one follows: t is what the test of the byte after them answered
-  pub hex-flat : {c : Color} {r : HexTry} {b : ℕ} {t : Bool} → b ≡ getD s (at + 6) 0 → t ≡ isHexDigit b → (leb (at + 6) (length s) && not t) ≡ true
-      → r ≡ sixDigits s at → r ≡ H.Digits c → C.Value c (place (at + 6)) ≡ parseHex s at
+  pub hex-flat : {c : Color} {n b : ℕ} {t : Bool} → b ≡ getD s (at + 6) 0 → t ≡ isHexDigit b → (leb (at + 6) (length s) && not t) ≡ true
+      → n ≡ sixDigits s at → n < noColor → c ≡ unpacked n → C.Value c (place (at + 6)) ≡ parseHex s at
   unfolding sixDigits
-  hex-flat {c} {r} {b} {t} p q h w e =
-      let n : t ≡ false = not-true t (and-second (leb (at + 6) (length s)) (not t) h) in
-      let x : isHexDigit (getD s (at + 6) 0) ≡ false = rw (← p, ← q) n in
-      let y = digits-if (leb (at + 6) (scan isHexDigit s at)) (H.Digits (longColor s at 255)) (sym e ∙ w) in
+  hex-flat {c} {n} {b} {t} p q h w l e =
+      let f : t ≡ false = not-true t (and-second (leb (at + 6) (length s)) (not t) h) in
+      let x : isHexDigit (getD s (at + 6) 0) ≡ false = rw (← p, ← q) f in
+      let y = digits-if n (leb (at + 6) (scan isHexDigit s at)) (packed (longColor s at 255)) l w in
       let g : at + 6 ≤ scan isHexDigit s at = leb-true (at + 6) (scan isHexDigit s at) (y .0) in
       let k : scan isHexDigit s at ≡ at + 6 = run-ends s at (at + 6) (omega arith) g x in
-      let d : c ≡ longColor s at 255 = let v : H.Digits c ≡ H.Digits (longColor s at 255) = y .1 in cc in
+      let d : c ≡ longColor s at 255 = e ∙ ap unpacked (y .1) ∙ sym (long-unpacks s at) in
       rw d (sym (long-read k))
 
 ascii-all : (s : List ℕ) → ((j : ℕ) → j < length s → getD s j 0 < 128) → isAscii s ≡ true
@@ -247,28 +279,30 @@ module _ (s : List ℕ) (hash : getD s 0 0 ≡ 35) (some : 0 < length s) (all : 
         read = simp (b, d, hash, p, e, l);
       }
 
--- n digits, whose colour is d
-module _ (s : List ℕ) {c d : Color} (n : ℕ) (h : length s ≡ 1 + n) (small : 1 + n ≤ 4096) (more : 0 < n) (read : scan isHexDigit s 1 ≡ 1 + n → parseHex s 1 ≡ C.Value d (place (1 + n))) where
-  alone-digits : H.Digits c ≡ cond (eqb (getD s 0 0) 35) (cond (leb (1 + n) (scan isHexDigit s 1)) (H.Digits d) H.Other) H.Other → Alone s c
-  alone-digits x =
-      let p = digits-if (eqb (getD s 0 0) 35) (cond (leb (1 + n) (scan isHexDigit s 1)) (H.Digits d) H.Other) x in
-      let q = digits-if (leb (1 + n) (scan isHexDigit s 1)) (H.Digits d) (p .1) in
+-- n digits, whose colour is d: v is what the try answered
+module _ (s : List ℕ) {d : Color} (n v : ℕ) (h : length s ≡ 1 + n) (small : 1 + n ≤ 4096) (more : 0 < n) (u : d ≡ unpacked (packed d)) (read : scan isHexDigit s 1 ≡ 1 + n → parseHex s 1 ≡ C.Value d (place (1 + n))) where
+  alone-digits : v < noColor → v ≡ cond (eqb (getD s 0 0) 35) (cond (leb (1 + n) (scan isHexDigit s 1)) (packed d) noColor) noColor → Alone s (unpacked v)
+  alone-digits l x =
+      let p = digits-if v (eqb (getD s 0 0) 35) (cond (leb (1 + n) (scan isHexDigit s 1)) (packed d) noColor) l x in
+      let q = digits-if v (leb (1 + n) (scan isHexDigit s 1)) (packed d) l (p .1) in
       let k : scan isHexDigit s 1 ≡ 1 + n = omega (arith, leb-true (1 + n) (scan isHexDigit s 1) (q .0), scan-le isHexDigit s 1 (omega arith)) in
-      let e : H.Digits c ≡ H.Digits d = q .1 in
-      let f : c ≡ d = cc in
+      let f : unpacked v ≡ d = ap unpacked (q .1) ∙ sym u in
       alone-text s (eqb-true (getD s 0 0) 35 (p .0)) (omega arith) (k ∙ sym h) (omega arith) (omega arith) (rw (f, h) (read k))
 
--- digits that are the whole text: r is what the try answered
-module _ (s : List ℕ) {c : Color} {r : HexTry} (q : r ≡ hexAlone s) (e : r ≡ H.Digits c) where
-  pub alone : Alone s c
+-- digits that are the whole text: v is what the try answered
+module _ (s : List ℕ) {v : ℕ} (q : v ≡ hexAlone s) (l : v < noColor) where
+  pub alone : Alone s (unpacked v)
   unfolding hexAlone sixDigits threeDigits
   alone =
-      let x = sym e ∙ q in
-      either (eqb (length s) 7) (λ f. alone-digits s 6 (eqb-true (length s) 7 f) (omega arith) (omega arith) (long-read s 1) (simp f at x))
-      (λ f. either (eqb (length s) 4) (λ g. alone-digits s 3 (eqb-true (length s) 4 g) (omega arith) (omega arith) (short-read s 1) (simp (f, g) at x))
-      (λ g. let v : H.Digits c ≡ H.Other = simp (f, g) at x in let z : _≡_ {A = ℕ} 0 1 = cc in absurd (omega arith)))
+      either (eqb (length s) 7) (λ f. alone-digits s 6 v (eqb-true (length s) 7 f) (omega arith) (omega arith) (long-unpacks s 1) (long-read s 1) l (simp f at q))
+      (λ f. either (eqb (length s) 4) (λ g. alone-digits s 3 v (eqb-true (length s) 4 g) (omega arith) (omega arith) (short-unpacks s 1) (short-read s 1) l (simp (f, g) at q))
+      (λ g. let z : v ≡ noColor = simp (f, g) at q in absurd (omega arith)))
 
-  -- they are its answer
-  pub alone-is : A.Value c ≡ fromStr s
-  unfolding fromStr
-  alone-is = simp (alone .admit, alone .read)
+-- `&text[0..]` is the text
+pub whole-alone : (s : List ℕ) {v : ℕ} → v ≡ hexAlone (take (length s - 0) (drop 0 s)) → v ≡ hexAlone s
+whole-alone s h = rw (rest-part s 0) at h
+
+-- they are its answer
+pub alone-is : (s : List ℕ) {v : ℕ} {c : Color} → v ≡ hexAlone s → v < noColor → c ≡ unpacked v → A.Value c ≡ fromStr s
+unfolding fromStr
+alone-is s q l e = rw e (simp (alone s q l .admit, alone s q l .read))

@@ -4,29 +4,51 @@ ghost use mathlib.Core.Path.{_≡_};
 ghost use Prim.Native.Nat.{_+_, _≤_};
 ghost use lib.ListN.{length};
 ghost use Rattle.stream.specs.Bytes.{within};
+ghost use Rattle.color.specs.Color.{rgba};
 ghost use Rattle.color.specs.Hex.{fromHex, shortHex, hexPair, shortColor, longColor, parseHex};
-ghost use Rattle.color.specs.Flat.{hexDigit, sixDigits, threeDigits, hexAlone};
+ghost use Rattle.color.specs.Flat.{packed, unpacked, hexDigit, sixDigits, threeDigits, hexAlone};
 use crate::Color;
 use crate::ColorRead;
-use crate::HexTry;
 use stream::Place;
 
+// No packed colour: the first number after them.
+pub const NO_COLOR: u64 = 0x1_0000_0000;
+
+// A colour without alpha, which is then 255, as one number: that comes back in a register.
+fn packed(red: u8, green: u8, blue: u8) -> u64
+    ensures { λ r. ⌜ r ≡ packed (rgba red green blue 255) ⌝ }
+{
+    (red as u64) + ((green as u64) * 256 + ((blue as u64) * 65536 + 0xff00_0000))
+}
+
+// The colour of a packed number.
+pub fn unpacked(v: u64) -> Color
+    ensures { λ r. ⌜ r ≡ unpacked v ⌝ }
+{
+    Color {
+        red: (v % 256) as u8,
+        green: (v / 256 % 256) as u8,
+        blue: (v / 65536 % 256) as u8,
+        alpha: (v / 16777216 % 256) as u8,
+    }
+}
+
 // A text that is `#` and six or three digits: all ASCII, so it needs no test of UTF-8.
-pub fn hex_alone(text: &[u8]) -> HexTry
+pub fn hex_alone(text: &[u8]) -> u64
     ensures { λ r. ⌜ r ≡ hexAlone (now (text .entry)) ⌝ }
 {
     if text.len() == 7 {
         if text[0] == b'#' {
             return six_digits(text, 1);
         }
-        return HexTry::Other;
+        return NO_COLOR;
     }
     if text.len() == 4 {
         if text[0] == b'#' {
             return three_digits(text, 1);
         }
     }
-    HexTry::Other
+    NO_COLOR
 }
 
 // The colour whose hex digits start at a place, the one after the `#`.
@@ -36,11 +58,9 @@ pub fn parse_hex(text: &[u8], at: Place) -> ColorRead
 {
     let from = at.0;
     if (from + 6 <= text.len()) & !stream::is_hex_digit(stream::byte_at(text, from + 6)) {
-        match six_digits(text, from) {
-            HexTry::Digits(color) => {
-                return ColorRead::Value(color, Place(from + 6));
-            }
-            HexTry::Other => {}
+        let v = six_digits(text, from);
+        if v < NO_COLOR {
+            return ColorRead::Value(unpacked(v), Place(from + 6));
         }
     }
     let end = stream::skip_hex_digits(text, at);
@@ -55,7 +75,7 @@ pub fn parse_hex(text: &[u8], at: Place) -> ColorRead
 }
 
 // Six digits, the most common colour, each read once and all tested together.
-fn six_digits(text: &[u8], at: usize) -> HexTry
+fn six_digits(text: &[u8], at: usize) -> u64
     requires { ⌜ at + 6 ≤ length (now text) ⌝ }
     ensures { λ r. ⌜ r ≡ sixDigits (now (text .entry)) at ⌝ }
 {
@@ -66,18 +86,13 @@ fn six_digits(text: &[u8], at: usize) -> HexTry
     let e = hex_digit(text[at + 4]);
     let f = hex_digit(text[at + 5]);
     if (a < 16) & ((b < 16) & ((c < 16) & ((d < 16) & ((e < 16) & (f < 16))))) {
-        return HexTry::Digits(Color {
-            red: a * 16 + b,
-            green: c * 16 + d,
-            blue: e * 16 + f,
-            alpha: 255,
-        });
+        return packed(a * 16 + b, c * 16 + d, e * 16 + f);
     }
-    HexTry::Other
+    NO_COLOR
 }
 
 // Three digits, likewise.
-fn three_digits(text: &[u8], at: usize) -> HexTry
+fn three_digits(text: &[u8], at: usize) -> u64
     requires { ⌜ at + 3 ≤ length (now text) ⌝ }
     ensures { λ r. ⌜ r ≡ threeDigits (now (text .entry)) at ⌝ }
 {
@@ -85,14 +100,9 @@ fn three_digits(text: &[u8], at: usize) -> HexTry
     let b = hex_digit(text[at + 1]);
     let c = hex_digit(text[at + 2]);
     if (a < 16) & ((b < 16) & (c < 16)) {
-        return HexTry::Digits(Color {
-            red: a * 16 + a,
-            green: b * 16 + b,
-            blue: c * 16 + c,
-            alpha: 255,
-        });
+        return packed(a * 16 + a, b * 16 + b, c * 16 + c);
     }
-    HexTry::Other
+    NO_COLOR
 }
 
 // The value of a hex digit, 16 for another byte.

@@ -15,7 +15,9 @@ use stream::Refusal;
 
 mod hex;
 
+pub use hex::NO_COLOR;
 pub use hex::hex_alone;
+pub use hex::unpacked;
 
 pub struct Color {
     pub red: u8,
@@ -35,22 +37,15 @@ pub enum ColorAnswer {
     Refused(Refusal),
 }
 
-// What a try at hex digits found: their colour, or that the general path must tell.
-pub enum HexTry {
-    Digits(Color),
-    Other,
-}
-
-// A colour as a whole text, for a caller who has promised nothing of it.
+// A colour as a whole text, for a caller who has promised nothing of it. The slice is taken anew:
+// handed on whole it is copied by 16 bytes, which wait for the stores of its two halves.
 pub fn from_str(text: &[u8]) -> ColorAnswer
     ensures { λ r. ⌜ r ≡ fromStr (now (text .entry)) ⌝ }
 {
     if stream::is_curr_byte_eq(text, Place(0), b'#') {
-        match hex_alone(text) {
-            HexTry::Digits(color) => {
-                return ColorAnswer::Value(color);
-            }
-            HexTry::Other => {}
+        let v = hex_alone(&text[0..]);
+        if v < NO_COLOR {
+            return ColorAnswer::Value(hex::unpacked(v));
         }
     }
     match stream::admit_text(text) {

@@ -19,10 +19,8 @@ use Rattle.stream.proofs.Octets.{and-first, and-second}
 use Rattle.stream.proofs.Ranges.{within-yes, within-ge, within-le}
 use Rattle.stream.proofs.Trimming.{plain-len, front-start, front-stop, trim-whole}
 use Rattle.stream.proofs.Wording.{same-eq}
-use Rattle.color.specs.Flat.{hexAlone}
+use Rattle.color.specs.Flat.{noColor, unpacked, hexAlone}
 use Rattle.color.specs.declared.Color.{Color}
-use Rattle.color.specs.declared.HexTry.{HexTry}
-use Rattle.color.specs.declared.HexTry.the-variants as H
 use Rattle.color.proofs.Digits.{hex-low, hex-high}
 use Rattle.color.proofs.Flat.{Alone, alone}
 use Rattle.paint.specs.Answers.{fromStr}
@@ -97,11 +95,11 @@ pub inked-part : (s : List ℕ) {r q : Bool} → 0 < length s → r ≡ within 3
     → _≡_ {A = Part} (record { start = record { 0 = 0 }; len = length s }) (trimPart s)
 inked-part s {r} {q} h f l e = part-kept s h (sym (and-first r q e) ∙ f) (sym (and-second r q e) ∙ l)
 
--- `#` and digits alone: r is what the try answered
-pub hex-paint : (s : List ℕ) {c : Color} {r : HexTry} → r ≡ hexAlone s → r ≡ H.Digits c → A.Value (P.Color c) ≡ fromStr s
+-- `#` and digits alone: n is what the try answered
+pub hex-paint : (s : List ℕ) {c : Color} {n : ℕ} → n ≡ hexAlone s → n < noColor → c ≡ unpacked n → A.Value (P.Color c) ≡ fromStr s
 unfolding fromStr parsePaint parsePlain movePaint bind
-hex-paint s {c} q e =
-    let v = alone s q e in
+hex-paint s {c} q h e =
+    let v = alone s q h in
     let b = v .first in
     let z = v .last in
     let f : true ≡ within 33 126 (getD s 0 0) = within-yes 33 126 (getD s 0 0) (omega arith) (omega arith) in
@@ -109,4 +107,4 @@ hex-paint s {c} q e =
     let t : trimOf s ≡ s = trim-kept s (v .some) f l in
     let n : (w : ℕ) (ws : List ℕ) → eqb 35 w ≡ false → same s (w ∷ ws) ≡ false = λ w ws k. not-same s w ws (rw b k) in
     let u : startsWith (ascii "url(") s ≡ false = not-starts s 117 (ascii "rl(") (rw b refl) in
-    simp (v .admit, t, n 110 (ascii "one") refl, n 105 (ascii "nherit") refl, n 99 (ascii "urrentColor") refl, n 99 (ascii "ontext-fill") refl, n 99 (ascii "ontext-stroke") refl, u, v .read)
+    simp (v .admit, t, n 110 (ascii "one") refl, n 105 (ascii "nherit") refl, n 99 (ascii "urrentColor") refl, n 99 (ascii "ontext-fill") refl, n 99 (ascii "ontext-stroke") refl, u, v .read, e)

@@ -11,7 +11,6 @@ ghost use Rattle.paint.specs.Linked.{afterLink};
 ghost use Rattle.paint.specs.Answers.{isInherit, fromStr, inheritedOf, inheritedPart};
 use color::Color;
 use color::ColorRead;
-use color::HexTry;
 use funciri::LinkRead;
 use stream::Admission;
 use stream::Fault;
@@ -245,11 +244,9 @@ pub fn from_str(text: &[u8]) -> PaintAnswer
         return PaintAnswer::Value(Paint::None);
     }
     if stream::is_curr_byte_eq(text, Place(0), b'#') {
-        match color::hex_alone(text) {
-            HexTry::Digits(color) => {
-                return PaintAnswer::Value(Paint::Color(color));
-            }
-            HexTry::Other => {}
+        let v = color::hex_alone(&text[0..]);
+        if v < color::NO_COLOR {
+            return PaintAnswer::Value(Paint::Color(color::unpacked(v)));
         }
     }
     from_any(text)

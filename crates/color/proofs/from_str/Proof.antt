@@ -1,5 +1,5 @@
 use Rattle.stream.proofs.Edges.{admitted, edges}
-use Rattle.color.proofs.Flat.{alone-is}
+use Rattle.color.proofs.Flat.{alone-is, whole-alone}
 use Rattle.color.proofs.Steps.{answer-refused, coloured}
 use Rattle.color.specs.Answer.{fromStr}
 use borrow.Author.Needs.{needs}
@@ -11,10 +11,12 @@ from-str-spec =
     tie.close
     (tie.spec
     (λ c κs. search needs)
+    (λ c. search needs)
+    (λ c. search needs)
+    (λ c. search needs)
     (λ c κs. search needs)
-    (λ c. search needs)
-    (λ c. search (alone-is, needs))
-    (λ c. search needs)
+    (λ c κs. search needs)
+    (λ c. search (alone-is, whole-alone, needs))
     (λ c κs. search needs)
     (λ c. search needs)
     (λ c. search needs)

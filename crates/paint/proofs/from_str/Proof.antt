@@ -1,4 +1,5 @@
 use borrow.Author.Needs.{needs}
+use Rattle.color.proofs.Flat.{whole-alone}
 use Rattle.paint.proofs.Flat.{none-alone, hex-paint}
 use Rattle.paint.proofs.from_str.Statement.{statement}
 use Rattle.paint.proofs.from_str.Tie as tie
@@ -11,9 +12,11 @@ from-str-spec =
     (λ c κs. search needs)
     (λ c. search (none-alone, needs))
     (λ c κs. search needs)
+    (λ c. search needs)
+    (λ c. search needs)
+    (λ c. search needs)
     (λ c κs. search needs)
-    (λ c. search needs)
-    (λ c. search (hex-paint, needs))
-    (λ c. search needs)
+    (λ c κs. search needs)
+    (λ c. search (hex-paint, whole-alone, needs))
     (λ c κs. search needs)
     (λ c. search needs))

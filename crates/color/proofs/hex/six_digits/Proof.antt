@@ -35,5 +35,6 @@ six-digits-spec =
     (λ c. pair-fits _ _ (low c .0 .third) (low c .1 .first))
     (λ c. high-fits _ (low c .1 .second))
     (λ c. pair-fits _ _ (low c .1 .second) (low c .1 .third))
+    (λ c κs. search needs)
     (λ c. search (six-yes, needs))
     (λ c. search (six-no, needs)))

@@ -24,5 +24,6 @@ three-digits-spec =
     (λ c. pair-fits _ _ (low c .second) (low c .second))
     (λ c. high-fits _ (low c .third))
     (λ c. pair-fits _ _ (low c .third) (low c .third))
+    (λ c κs. search needs)
     (λ c. search (three-yes, needs))
     (λ c. search (three-no, needs)))
