@@ -88,10 +88,14 @@ module _ (s : List ℕ) (i : ℕ) where
         inside = λ h. either (isCurrByteEq s j 44) (λ e. simp e (omega (arith, curr-inside s j 44 refl e))) (λ e. simp e (scan-le isSpace s i h));
       }
 
--- the place after a unit is inside, so that it fits: r is the number's answer, u its unit, w the unit's width
+-- the place after a unit is inside: u is the unit, w its width
+pub unit-inside : (s : List ℕ) (i : ℕ) {u : LengthUnit} {w : ℕ} → u ≡ unitAt s i → w ≡ unitWidth u → i ≤ length s → i + w ≤ length s
+unit-inside s i v h l = rw (h, v) (unit-goes s i .inside l)
+
+-- so that it fits: r is the number's answer
 pub unit-fits : (s : List ℕ) (i : ℕ) (r : NumberRead) (n : Number) (p : Place) (u : LengthUnit) (w : ℕ) → r ≡ parseNumber s i → r ≡ N.Value n p
     → u ≡ unitAt s (p .0) → w ≡ unitWidth u → length s ≤ 4096 → Fits w64 (p .0 + w)
-unit-fits s i r n p u w q e v h l = rw (h, v) (omega (arith, unit-goes s (p .0) .inside (number-known s i n p (sym q ∙ e) .inside)))
+unit-fits s i r n p u w q e v h l = omega (arith, unit-inside s (p .0) v h (number-known s i n p (sym q ∙ e) .inside))
 
 module _ (s : List ℕ) (i : ℕ) where
   pub length-taken : allLengths (LengthTaken s i) (parseLength s i)

@@ -1,3 +1,4 @@
 pub mod Moves
 pub mod Lengths
 pub mod Paper
+pub mod Quick

@@ -10,6 +10,11 @@ use stream::Fault;
 use stream::Place;
 use stream::Refusal;
 
+mod flat;
+
+pub use flat::quick_length;
+pub use flat::quick_list_length;
+
 pub enum LengthUnit {
     None,
     Em,
@@ -34,6 +39,14 @@ pub enum LengthRead {
     Refused(Fault),
 }
 
+// A length that is told at once: `end` is where its number ended, `next` where reading goes on, 0 where nothing is told.
+pub struct QuickLength {
+    pub number: f64,
+    pub unit: LengthUnit,
+    pub end: usize,
+    pub next: usize,
+}
+
 pub enum LengthAnswer {
     Value(Length),
     Refused(Refusal),
@@ -52,10 +65,23 @@ pub fn from_str(text: &[u8]) -> LengthAnswer
 {
     match stream::admit_text(text) {
         Admission::Refused(refusal) => LengthAnswer::Refused(refusal),
-        Admission::Admitted => match parse_whole(text) {
-            LengthRead::Refused(e) => LengthAnswer::Refused(stream::refusal_of(text, e)),
-            LengthRead::Value(l, _, _) => LengthAnswer::Value(l),
-        },
+        Admission::Admitted => {
+            let q = quick_length(text, 0);
+            let next = q.next;
+            if 0 < next {
+                if next < text.len() {
+                    let fault = stream::unexpected_data(text, Place(next));
+                    return LengthAnswer::Refused(stream::refusal_of(text, fault));
+                }
+                let unit = q.unit;
+                let number = q.number;
+                return LengthAnswer::Value(Length { number, unit });
+            }
+            match parse_whole(text) {
+                LengthRead::Refused(e) => LengthAnswer::Refused(stream::refusal_of(text, e)),
+                LengthRead::Value(l, _, _) => LengthAnswer::Value(l),
+            }
+        }
     }
 }
 

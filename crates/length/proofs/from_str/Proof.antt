@@ -1,5 +1,6 @@
 use Rattle.stream.proofs.Edges.{admitted, edges}
 use Rattle.length.proofs.Steps.{lengthed}
+use Rattle.length.proofs.Told.{tolds}
 use Rattle.length.specs.Lengths.{fromStr}
 use borrow.Author.Needs.{needs}
 use Rattle.length.proofs.from_str.Statement.{statement}
@@ -12,6 +13,11 @@ from-str-spec =
     (λ c κs. search needs)
     (λ c. search needs)
     (λ c. search needs)
+    (λ c κs. search (admitted, needs))
+    (λ c κs. search needs)
+    (λ c κs. search (admitted, needs))
+    (λ c. unfold fromStr in search (edges, tolds, needs) depth 20)
+    (λ c. unfold fromStr in search (edges, tolds, needs) depth 20)
     (λ c κs. search (admitted, needs))
     (λ c. search needs)
     (λ c κs. search (admitted, needs))
