@@ -1,3 +1,5 @@
+pub mod Told
+pub mod Shaded
 pub mod Steps
 pub mod Naming
 pub mod Shifts

@@ -46,7 +46,7 @@ filterName w =
     (cond (same w (ascii "hue-rotate")) N.HueRotate
     (cond (same w (ascii "url")) N.Url (plainName w))))
 
--- a name's bytes and its bracket; of an unknown one nothing is known
+-- a name's bytes and its bracket; of an unknown one nothing is known. Only contracts inside the crate speak of it
 abbrev pub opened : FilterName → List ℕ
 opened N.Blur = ascii "blur("
 opened N.DropShadow = ascii "drop-shadow("
@@ -61,7 +61,7 @@ opened (N.Plain P.Sepia) = ascii "sepia("
 opened N.Url = ascii "url("
 opened N.Unknown = []
 
--- a word, spaces, `(` (40): the beginning of `parseNext`
+-- a word, spaces, `(` (40): the beginning of `parseNext`. Only a contract inside the crate speaks of it
 unfoldable pub parseName : List ℕ → ℕ → NameRead
 parseName s start =
     bind (scan isAsciiIdent s start) (λ end.

@@ -17,12 +17,19 @@ use stream::Refusal;
 
 mod arguments;
 mod drop_shadow;
+mod flat;
+mod flat_shadow;
 
 use arguments::parse_blur;
 use arguments::parse_generic_color_func;
 use arguments::parse_hue_rotate;
 use arguments::parse_url;
 use drop_shadow::parse_drop_shadow_func;
+pub use flat::quick_blur;
+pub use flat::quick_degrees;
+pub use flat::quick_plain_value;
+pub use flat::quick_url;
+pub use flat_shadow::quick_shadow;
 
 // A shadow's colour; none where it is left out or `currentColor`, which are to be drawn alike.
 pub enum ShadowColor {
@@ -69,13 +76,41 @@ pub enum StepRead {
     Refused(Fault),
 }
 
+// Values that are told at once, each with the place to go on from, which is 0 where nothing is told.
+pub struct QuickPlain {
+    pub plain: Plain,
+    pub number: f64,
+    pub next: usize,
+}
+
+pub struct QuickBlur {
+    pub blur: Length,
+    pub next: usize,
+}
+
+// Degrees, the unit of most angles.
+pub struct QuickDegrees {
+    pub number: f64,
+    pub next: usize,
+}
+
+pub struct QuickUrl {
+    pub link: Part,
+    pub next: usize,
+}
+
+pub struct QuickShadow {
+    pub shadow: Shadow,
+    pub next: usize,
+}
+
 // A value and the place where reading goes on, or why there is none.
 enum FilterRead {
     Value(FilterValue, Place),
     Refused(Fault),
 }
 
-enum Plain {
+pub enum Plain {
     Brightness,
     Contrast,
     Grayscale,
@@ -83,6 +118,12 @@ enum Plain {
     Opacity,
     Saturate,
     Sepia,
+}
+
+// A plain name with its bracket, and how many bytes those are: 0 where none stands at a place.
+struct PlainName {
+    plain: Plain,
+    width: usize,
 }
 
 enum FilterName {
