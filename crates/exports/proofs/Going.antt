@@ -9,12 +9,10 @@ use borrow.Author.Tests.{eq-eqb, ne-eqb}
 use lib.Dec.{eqb}
 use lib.ListN.{length, take, drop, getD, length-append}
 use lib.Seq.{paste, take-at, drop-append-add, drop-drop, take-all}
-use Rattle.filter_functions.specs.Filters.{nextFilter}
-use Rattle.filter_functions.specs.declared.FilterStep.{FilterStep}
 use Rattle.length.specs.Lengths.{nextLength}
 use Rattle.length.specs.declared.LengthStep.{LengthStep}
-use Rattle.exports.specs.Many.{upTo, fitting, flat, filled, lastPlace, toldOf, filterAt, lengthAt}
-use Rattle.exports.specs.Records.{filterRecord, lengthStepRecord}
+use Rattle.exports.specs.Many.{upTo, fitting, flat, filled, lastPlace, toldOf, lengthAt}
+use Rattle.exports.specs.Records.{lengthStepRecord}
 use Rattle.exports.proofs.Entries.{record-same, record-get}
 
 -- one record more
@@ -114,8 +112,5 @@ module _ {step : ℕ → List ℕ} {i₀ : ℕ} {o₀ : List ℕ} {n i : ℕ} {o
         (rw e next-list, rw (next-entry 8 (omega arith), e, next-count, last-behind i₀ (h .records) (step i)))
 
 -- the record of a step is written, by what two calls answered: x the step, p the entries
-pub filter-at : {p : List ℕ} (s : List ℕ) (i : ℕ) (o : List ℕ) (k : ℕ) {x : FilterStep} → p ≡ paste o k (filterRecord x) 24 → x ≡ nextFilter s i → p ≡ paste o k (filterAt s i) 24
-filter-at s i o k w e = rw (← e) w
-
 pub length-at : {p : List ℕ} (s : List ℕ) (i : ℕ) (o : List ℕ) (k : ℕ) {x : LengthStep} → p ≡ paste o k (lengthStepRecord x) 24 → x ≡ nextLength s i → p ≡ paste o k (lengthAt s i) 24
 length-at s i o k w e = rw (← e) w

@@ -6,3 +6,4 @@ pub mod Inherited
 pub mod Shadows
 pub mod Going
 pub mod Single
+pub mod AtOnce

@@ -22,7 +22,7 @@ fn measured(out: &mut [u64], at: usize, l: Length)
     out[at + 1] = rows::length_unit(unit);
 }
 
-fn shadow(out: &mut [u64], k: usize, d: Shadow, place: Place)
+pub fn shadow(out: &mut [u64], k: usize, d: Shadow, place: Place)
     requires { ⌜ k + 24 ≤ length (now out) ⌝ }
     ensures { λ _. ⌜ now (out .exit) ≡ paste (now (out .entry)) k (shadowRow (place .0) d (d .color)) 24 ⌝ }
 {

@@ -14,6 +14,7 @@ mod filters;
 mod lengths;
 mod many;
 mod rows;
+mod told;
 mod written;
 
 #[no_mangle]

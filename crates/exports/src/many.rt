@@ -1,14 +1,20 @@
 // Many steps of a list at once. The text is admitted once; from then on a list place costs the test of one byte.
 ghost use mathlib.Core.Path.{_≡_};
+ghost use Prim.Native.Nat.{_+_, _≤_};
+ghost use lib.ListN.{length};
+ghost use lib.Seq.{paste};
 ghost use Rattle.stream.specs.Characters.{utf8Of, onCharacter};
 ghost use Rattle.stream.specs.Refusals.{admitText, admitPlace};
 ghost use Rattle.stream.specs.declared.Utf8.the-variants as Utf8;
 ghost use Rattle.filter_functions.specs.Filters.{nextFilter};
 ghost use Rattle.length.specs.Lengths.{nextLength};
 ghost use Rattle.exports.specs.Many.{fitting, filled, toldOf, filterAt, lengthAt};
+ghost use Rattle.exports.specs.Records.{filterRecord};
+ghost use Rattle.exports.specs.Told.{stepOf};
 use crate::filters;
 use crate::lengths;
 use crate::rows;
+use crate::told;
 use filter_functions::FilterStep;
 use filter_functions::StepRead;
 use length::LengthRead;
@@ -45,23 +51,34 @@ fn admit(text: &[u8], admission: Admission, place: Place) -> Admission
     }
 }
 
-// What `filter_functions::next` answers.
-fn filter_step(text: &[u8], admission: Admission, place: Place) -> FilterStep
+// What `filter_functions::next` answers of an admitted place.
+fn admitted_step(text: &[u8], place: Place) -> FilterStep
+    requires { ⌜ length (now text) ≤ 4096 ⌝ }
+    requires { ⌜ utf8Of (now text) ≡ Utf8.WellFormed ⌝ }
+    ensures { λ r. ⌜ r ≡ stepOf (now (text .entry)) (place .0) ⌝ }
+{
+    let end = text.len();
+    match filter_functions::parse_step(text, place) {
+        StepRead::Value(v, p) => FilterStep::Value(v, p),
+        StepRead::End => FilterStep::End(Place(end)),
+        StepRead::NoneWord => FilterStep::NoneWord(Place(end)),
+        StepRead::Refused(e) => FilterStep::Refused(stream::refusal_of(text, e), Place(end)),
+    }
+}
+
+// What `filter_functions::next` answers, as a record.
+fn write_step(out: &mut [u64], k: usize, text: &[u8], admission: Admission, place: Place)
+    requires { ⌜ k + 24 ≤ length (now out) ⌝ }
     requires { ⌜ admission ≡ admitText (now text) ⌝ }
-    ensures { λ r. ⌜ r ≡ nextFilter (now (text .entry)) (place .0) ⌝ }
+    ensures { λ _. ⌜ now (out .exit) ≡ paste (now (out .entry)) k (filterRecord (nextFilter (now (text .entry)) (place .0))) 24 ⌝ }
 {
     match admit(text, admission, place) {
-        Admission::Refused(e) => FilterStep::Refused(e, place),
+        Admission::Refused(e) => filters::write_filter(out, k, FilterStep::Refused(e, place)),
         Admission::Admitted => {
-            let end = text.len();
-            match filter_functions::parse_step(text, place) {
-                StepRead::Value(v, p) => FilterStep::Value(v, p),
-                StepRead::End => FilterStep::End(Place(end)),
-                StepRead::NoneWord => FilterStep::NoneWord(Place(end)),
-                StepRead::Refused(e) => {
-                    FilterStep::Refused(stream::refusal_of(text, e), Place(end))
-                }
+            if told::step_told(out, k, text, place.0) {
+                return;
             }
+            filters::write_filter(out, k, admitted_step(text, place));
         }
     }
 }
@@ -99,7 +116,7 @@ pub fn filter_steps(text: &[u8], place: usize, answers: &mut [u64], told: &mut [
     let mut at = place;
     while n < room {
         let k = n * 24;
-        filters::write_filter(answers, k, filter_step(text, admission, Place(at)));
+        write_step(answers, k, text, admission, Place(at));
         n += 1;
         at = answers[k + 8] as usize;
         if answers[k + 7] != 0 {

@@ -1,8 +1,10 @@
 // The numbers that stand in a record, and a refusal of one number.
 ghost use mathlib.Core.Path.{_≡_};
 ghost use Rattle.exports.specs.Records.{bitsOf, lengthUnit, angleUnit};
+ghost use Rattle.exports.specs.Told.{plainNumber};
 ghost use Rattle.stream.specs.Refusals.{bareRefusal};
 use angle::AngleUnit;
+use filter_functions::Plain;
 use length::LengthUnit;
 use stream::Part;
 use stream::Place;
@@ -61,5 +63,20 @@ pub fn angle_unit(unit: AngleUnit) -> u64
         AngleUnit::Gradians => 1,
         AngleUnit::Radians => 2,
         AngleUnit::Turns => 3,
+    }
+}
+
+// A plain function's kind.
+pub fn plain_number(plain: Plain) -> u64
+    ensures { λ r. ⌜ r ≡ plainNumber plain ⌝ }
+{
+    match plain {
+        Plain::Brightness => 3,
+        Plain::Contrast => 4,
+        Plain::Grayscale => 5,
+        Plain::Invert => 7,
+        Plain::Opacity => 8,
+        Plain::Sepia => 9,
+        Plain::Saturate => 10,
     }
 }

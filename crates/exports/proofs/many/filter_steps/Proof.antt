@@ -1,6 +1,6 @@
 use Prim.Native.Nat.{_-_, _*_}
 use Rattle.exports.proofs.Entries.{filter-entries}
-use Rattle.exports.proofs.Going.{Going, going-start, going-full, going-same, going-on, going-stop, filter-at}
+use Rattle.exports.proofs.Going.{Going, going-start, going-full, going-same, going-on, going-stop}
 use Rattle.exports.specs.Many.{filterAt}
 use Rattle.filter_functions.specs.Filters.{nextFilter}
 use borrow.Author.Needs.{needs}
@@ -23,7 +23,6 @@ filter-steps-spec =
     (λ c. search (going-start, needs))
     (λ c. search needs)
     (λ c κs. search needs)
-    (λ c κs. search needs)
     (λ c. search needs)
     (λ c. search needs)
     (λ c. search needs)
@@ -31,9 +30,9 @@ filter-steps-spec =
     (λ c. search needs)
     (λ c. search needs)
     (λ c. search needs)
-    (λ c. let s = c .before .before .before .before .before .before .before .before .before .before .before .before .before .before .args .text .now in let l = c .before .before .before .before .before .before .before .before .before .before .loop in going-same (l .inv) (filter-at s (l .at) (l .answers) (l .n * 24) (c .before .before .before .before .before .before .write-filter .ensures) (c .before .before .before .before .before .before .before .filter-step .ensures)) (search needs) (filter-entries (nextFilter s (l .at))))
-    (λ c. let s = c .before .before .before .before .before .before .before .before .before .before .before .before .before .before .args .text .now in let l = c .before .before .before .before .before .before .before .before .before .before .loop in going-stop (l .inv) (filter-at s (l .at) (l .answers) (l .n * 24) (c .before .before .before .before .before .before .write-filter .ensures) (c .before .before .before .before .before .before .before .filter-step .ensures)) (search needs) (filter-entries (nextFilter s (l .at))) (search needs))
+    (λ c. let s = c .before .before .before .before .before .before .before .before .before .before .before .before .before .args .text .now in let l = c .before .before .before .before .before .before .before .before .before .loop in going-same (l .inv) (c .before .before .before .before .before .before .write-step .ensures) (search needs) (filter-entries (nextFilter s (l .at))))
+    (λ c. let s = c .before .before .before .before .before .before .before .before .before .before .before .before .before .args .text .now in let l = c .before .before .before .before .before .before .before .before .before .loop in going-stop (l .inv) (c .before .before .before .before .before .before .write-step .ensures) (search needs) (filter-entries (nextFilter s (l .at))) (search needs))
     (λ c. search needs)
-    (λ c. let s = c .before .before .before .before .before .before .before .before .before .before .before .before .before .args .text .now in let l = c .before .before .before .before .before .before .before .before .before .loop in going-on (l .inv) (filter-at s (l .at) (l .answers) (l .n * 24) (c .before .before .before .before .before .write-filter .ensures) (c .before .before .before .before .before .before .filter-step .ensures)) (search needs) (filter-entries (nextFilter s (l .at))) (search needs))
+    (λ c. let s = c .before .before .before .before .before .before .before .before .before .before .before .before .args .text .now in let l = c .before .before .before .before .before .before .before .before .loop in going-on (l .inv) (c .before .before .before .before .before .write-step .ensures) (search needs) (filter-entries (nextFilter s (l .at))) (search needs))
     (λ c. search needs)
     (λ c. going-full (c .before .before .loop .inv) (search needs)))

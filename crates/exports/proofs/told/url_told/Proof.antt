@@ -1,0 +1,16 @@
+use Rattle.exports.proofs.AtOnce.{row-told}
+use Rattle.exports.specs.Records.{filterRow}
+use Rattle.filter_functions.specs.declared.FilterValue.the-variants as G
+use borrow.Author.Needs.{needs}
+use Rattle.exports.proofs.told.url_told.Statement.{statement}
+use Rattle.exports.proofs.told.url_told.Tie as tie
+
+pub url-told-spec : {M : Type 1} → statement M
+url-told-spec =
+    tie.close
+    (tie.spec
+    (λ c κs. search needs)
+    (λ c. search needs)
+    (λ c κs. search needs)
+    (λ c. search needs)
+    (λ c. let a = c .before .before .before .before .before .before .before .before .before .before .args in let q = c .before .before .before .before .before .before .before .quick-url in unfold filterRow in row-told (a .text .now) (a .at) (q .result .next) (G.Url (q .result .link)) (q .ensures) (c .before .before .before .before .before .before .if1 .left) (a .out .now) (a .k) (c .before .before .three .ensures)))
