@@ -17,6 +17,7 @@ use crate::rows;
 use crate::told;
 use filter_functions::FilterStep;
 use filter_functions::StepRead;
+use length::Length;
 use length::LengthRead;
 use length::LengthStep;
 use stream::Admission;
@@ -95,6 +96,13 @@ fn length_step(text: &[u8], admission: Admission, place: Place) -> LengthStep
             let end = text.len();
             if end <= i {
                 return LengthStep::End(Place(end));
+            }
+            let q = length::quick_list_length(text, i);
+            let next = q.next;
+            if 0 < next {
+                let number = q.number;
+                let unit = q.unit;
+                return LengthStep::Value(Length { number, unit }, Place(next));
             }
             match length::parse_list_length(text, place) {
                 LengthRead::Refused(e) => {

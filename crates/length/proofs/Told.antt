@@ -12,24 +12,27 @@ use lib.Seq.{drop-cons}
 use mir.Syntax.{w64}
 use mir.Val.{Fits}
 use Rattle.stream.specs.Bytes.{isSpace}
-use Rattle.stream.specs.Faults.{unexpectedData, parseListSeparator}
+use Rattle.stream.specs.Faults.{place, unexpectedData, parseListSeparator}
 use Rattle.stream.specs.Flow.{bind}
+use Rattle.stream.specs.Refusals.{refusalOf}
 use Rattle.stream.specs.Scan.{scan}
 use Rattle.stream.specs.Words.{startsWith}
-use Rattle.stream.specs.Refusals.{refusalOf}
 use Rattle.stream.specs.declared.Fault.{Fault}
+use Rattle.stream.specs.declared.Place.{Place}
 use Rattle.stream.specs.declared.Refusal.{Refusal}
 use Rattle.stream.proofs.Parts.{rest-part}
 use Rattle.stream.proofs.Ranges.{lt-or-le}
 use Rattle.numbers.specs.Number.{parseNumber}
-use Rattle.numbers.specs.Quick.{quickly}
+use Rattle.numbers.specs.Quick.{isWhole, quickly}
 use Rattle.numbers.specs.Quick as N
+use Rattle.numbers.specs.declared.Number.{Number}
 use Rattle.numbers.specs.declared.Quick.{Quick}
 use Rattle.length.specs.Lengths.{unitAt, unitRest, unitWidth, parseLength, parseListLength, parseWhole}
 use Rattle.length.specs.Moves.{thenLength}
 use Rattle.length.specs.Quick.{told, orTold}
-use Rattle.length.specs.declared.LengthRead.{LengthRead}
+use Rattle.length.specs.declared.Length.{Length}
 use Rattle.length.specs.declared.LengthAnswer.the-variants as O
+use Rattle.length.specs.declared.LengthRead.{LengthRead}
 use Rattle.length.specs.declared.LengthUnit.{LengthUnit}
 use Rattle.length.specs.declared.LengthUnit.the-variants as U
 use Rattle.length.specs.declared.QuickLength.{QuickLength}
@@ -98,10 +101,16 @@ module _ (s t : List ℕ) (i : ℕ) {u : LengthUnit} {w : ℕ} (v : u ≡ unitAt
 pub ruleset quicks = (whole-text, silent, silent-inside, length-told, list-length-told, next-inside, next-fits)
 
 -- what a quick reader's answer q says to its caller: x is what is read
-pub told-is : (s : List ℕ) (at : ℕ) (q : QuickLength) (x : LengthRead) → orTold s at q x ≡ x → 0 < q .next → told s at q ≡ x
+told-is : (s : List ℕ) (at : ℕ) (q : QuickLength) (x : LengthRead) → orTold s at q x ≡ x → 0 < q .next → told s at q ≡ x
 told-is s at q x h k = rw (lt-ltb 0 (q .next) k) at h
 
--- and what a whole text answers then
+-- going on with it
+pub then-told : {B : Type 0} (y : B) (out : Fault → B) (s : List ℕ) (at : ℕ) (q : QuickLength) (x : LengthRead) (k : Length → Number → Place → B)
+    → orTold s at q x ≡ x → 0 < q .next
+    → y ≡ k (record { number = q .number; unit = q .unit }) (record { value = q .number; whole = isWhole s at; end = place (q .end) }) (place (q .next)) → y ≡ thenLength out x k
+then-told y out s at q x k h l e = rw (← told-is s at q x h l) e
+
+-- what a whole text answers then
 module _ (s : List ℕ) (q : QuickLength) (h : orTold s 0 q (parseLength s 0) ≡ parseLength s 0) (k : 0 < q .next) where
   pub told-left : {f : Fault} {e : Refusal} → f ≡ unexpectedData s (q .next) → e ≡ refusalOf s f → q .next < length s
       → O.Refused e ≡ thenLength (λ e. O.Refused (refusalOf s e)) (parseWhole s) (λ l n p. O.Value l)
