@@ -27,7 +27,7 @@ use Rattle.stream.proofs.Scans.{scan-start, scan-go, scan-stop, scan-end, scan-
 use Rattle.stream.proofs.Walks.{ascii-utf8}
 use Rattle.color.specs.Answer.{fromStr}
 use Rattle.color.specs.Color.{rgba, parseColor, parseColorText}
-use Rattle.color.specs.Flat.{packed, noColor, unpacked, hexDigit, sixDigits, threeDigits, hexAlone}
+use Rattle.color.specs.Flat.{packed, noColor, unpacked, hexDigit, sixDigits, threeDigits, eightDigits, fourDigits, hexAlone}
 use Rattle.color.specs.Hex.{fromHex, shortHex, hexPair, shortColor, longColor, parseHex}
 use Rattle.color.specs.declared.Color.{Color}
 use Rattle.color.specs.declared.ColorRead.the-variants as C
@@ -42,7 +42,7 @@ pub pair-fits : (a b : ℕ) → a < 16 → b < 16 → Fits w8 (a * 16 + b)
 pair-fits a b h k = omega arith
 
 -- a byte that a scan passed
-scan-bytes : (p : ℕ → Bool) (s : List ℕ) (i j : ℕ) → i ≤ j → j < scan p s i → p (getD s j 0) ≡ true
+pub scan-bytes : (p : ℕ → Bool) (s : List ℕ) (i j : ℕ) → i ≤ j → j < scan p s i → p (getD s j 0) ≡ true
 unfolding scan
 scan-bytes p s i j h l =
     let f : p (getD (drop i s) (j - i) 0) ≡ true = run-bytes p (drop i s) (j - i) (omega arith) in
@@ -51,7 +51,7 @@ scan-bytes p s i j h l =
 
 -- whether the run that starts at i reaches e, by the test of one digit after another
 module _ (s : List ℕ) (e : ℕ) where
-  test-go : (i j a : ℕ) (u : Bool) → a ≡ hexDigit (getD s i 0) → i < length s → i < e → j ≡ i + 1 → u ≡ leb e (scan isHexDigit s j)
+  pub test-go : (i j a : ℕ) (u : Bool) → a ≡ hexDigit (getD s i 0) → i < length s → i < e → j ≡ i + 1 → u ≡ leb e (scan isHexDigit s j)
       → (ltb a 16 && u) ≡ leb e (scan isHexDigit s i)
   unfolding hexDigit
   test-go i j a u q h l k w =
@@ -68,13 +68,13 @@ module _ (s : List ℕ) (e : ℕ) where
       let f : leb e (scan isHexDigit s i) ≡ false = lt-leb e (scan isHexDigit s i) (omega arith) in
       simp (b, f))
 
-  test-last : (i a : ℕ) → a ≡ hexDigit (getD s i 0) → i < length s → e ≡ i + 1 → ltb a 16 ≡ leb e (scan isHexDigit s i)
+  pub test-last : (i a : ℕ) → a ≡ hexDigit (getD s i 0) → i < length s → e ≡ i + 1 → ltb a 16 ≡ leb e (scan isHexDigit s i)
   test-last i a q h k =
       sym (and-true (ltb a 16))
       ∙ test-go i (i + 1) a true q h (omega arith) refl (sym (le-leb e (scan isHexDigit s (i + 1)) (omega (arith, scan-ge isHexDigit s (i + 1)))))
 
   -- and then each has its value
-  value-is : (i j a : ℕ) → e ≤ scan isHexDigit s i → i ≤ j → j < e → a ≡ hexDigit (getD s j 0) → fromHex (getD s j 0) ≡ a
+  pub value-is : (i j a : ℕ) → e ≤ scan isHexDigit s i → i ≤ j → j < e → a ≡ hexDigit (getD s j 0) → fromHex (getD s j 0) ≡ a
   unfolding hexDigit
   value-is i j a h k l q =
       let t : isHexDigit (getD s j 0) ≡ true = scan-bytes isHexDigit s i j k (omega arith) in
@@ -189,20 +189,23 @@ module _ (c : Color) (r : c .red < 256) (g : c .green < 256) (b : c .blue < 256)
 value-below : (b : ℕ) → fromHex b < 16
 value-below b = either (isHexDigit b) (λ e. value-high b e) (λ e. omega (arith, value-none b e))
 
-module _ (s : List ℕ) (at : ℕ) where
-  long-unpacks : longColor s at 255 ≡ unpacked (packed (longColor s at 255))
-  unfolding longColor hexPair
-  long-unpacks = unpacks (longColor s at 255) (pair at) (pair (at + 2)) (pair (at + 4)) (omega arith)
-    where
-      pair : (i : ℕ) → fromHex (getD s i 0) * 16 + fromHex (getD s (i + 1) 0) < 256
-      pair i = omega (arith, value-below (getD s i 0), value-below (getD s (i + 1) 0))
+module _ (s : List ℕ) (i : ℕ) where
+  pub pair-below : hexPair s i < 256
+  unfolding hexPair
+  pair-below = omega (arith, value-below (getD s i 0), value-below (getD s (i + 1) 0))
 
-  short-unpacks : shortColor s at 255 ≡ unpacked (packed (shortColor s at 255))
-  unfolding shortColor shortHex
-  short-unpacks = unpacks (shortColor s at 255) (twice at) (twice (at + 1)) (twice (at + 2)) (omega arith)
-    where
-      twice : (i : ℕ) → fromHex (getD s i 0) * 16 + fromHex (getD s i 0) < 256
-      twice i = omega (arith, value-below (getD s i 0))
+  pub twice-below : shortHex s i < 256
+  unfolding shortHex
+  twice-below = omega (arith, value-below (getD s i 0))
+
+module _ (s : List ℕ) (at a : ℕ) (h : a < 256) where
+  long-unpacks : longColor s at a ≡ unpacked (packed (longColor s at a))
+  unfolding longColor
+  long-unpacks = unpacks (longColor s at a) (pair-below s at) (pair-below s (at + 2)) (pair-below s (at + 4)) h
+
+  short-unpacks : shortColor s at a ≡ unpacked (packed (shortColor s at a))
+  unfolding shortColor
+  short-unpacks = unpacks (shortColor s at a) (twice-below s at) (twice-below s (at + 1)) (twice-below s (at + 2)) h
 
 -- the digits that are tried lie inside
 pub flat-inside : (m n : ℕ) (t : Bool) → (leb m n && not t) ≡ true → m ≤ n
@@ -218,7 +221,7 @@ run-ends s i e h k x =
     absurd (omega arith))
     (le-or-lt (scan isHexDigit s i) e)
 
--- a run of six digits, and of three, is a colour
+-- a run of six digits, three, eight or four is a colour
 module _ (s : List ℕ) (at : ℕ) where
   long-read : scan isHexDigit s at ≡ at + 6 → parseHex s at ≡ C.Value (longColor s at 255) (place (at + 6))
   unfolding parseHex bind
@@ -227,6 +230,14 @@ module _ (s : List ℕ) (at : ℕ) where
   short-read : scan isHexDigit s at ≡ at + 3 → parseHex s at ≡ C.Value (shortColor s at 255) (place (at + 3))
   unfolding parseHex bind
   short-read e = let k : at + 3 - at ≡ 3 = omega arith in simp (e, k)
+
+  long-alpha : scan isHexDigit s at ≡ at + 8 → parseHex s at ≡ C.Value (longColor s at (hexPair s (at + 6))) (place (at + 8))
+  unfolding parseHex bind
+  long-alpha e = let k : at + 8 - at ≡ 8 = omega arith in simp (e, k)
+
+  short-alpha : scan isHexDigit s at ≡ at + 4 → parseHex s at ≡ C.Value (shortColor s at (shortHex s (at + 3))) (place (at + 4))
+  unfolding parseHex bind
+  short-alpha e = let k : at + 4 - at ≡ 4 = omega arith in simp (e, k)
 
   -- six digits that no further one follows: t is what the test of the byte after them answered
   pub hex-flat : {c : Color} {n b : ℕ} {t : Bool} → b ≡ getD s (at + 6) 0 → t ≡ isHexDigit b → (leb (at + 6) (length s) && not t) ≡ true
@@ -238,7 +249,7 @@ module _ (s : List ℕ) (at : ℕ) where
       let y = digits-if n (leb (at + 6) (scan isHexDigit s at)) (packed (longColor s at 255)) l w in
       let g : at + 6 ≤ scan isHexDigit s at = leb-true (at + 6) (scan isHexDigit s at) (y .0) in
       let k : scan isHexDigit s at ≡ at + 6 = run-ends s at (at + 6) (omega arith) g x in
-      let d : c ≡ longColor s at 255 = e ∙ ap unpacked (y .1) ∙ sym (long-unpacks s at) in
+      let d : c ≡ longColor s at 255 = e ∙ ap unpacked (y .1) ∙ sym (long-unpacks s at 255 (omega arith)) in
       rw d (sym (long-read k))
 
 ascii-all : (s : List ℕ) → ((j : ℕ) → j < length s → getD s j 0 < 128) → isAscii s ≡ true
@@ -292,11 +303,13 @@ module _ (s : List ℕ) {d : Color} (n v : ℕ) (h : length s ≡ 1 + n) (small 
 -- digits that are the whole text: v is what the try answered
 module _ (s : List ℕ) {v : ℕ} (q : v ≡ hexAlone s) (l : v < noColor) where
   pub alone : Alone s (unpacked v)
-  unfolding hexAlone sixDigits threeDigits
+  unfolding hexAlone sixDigits threeDigits eightDigits fourDigits
   alone =
-      either (eqb (length s) 7) (λ f. alone-digits s 6 v (eqb-true (length s) 7 f) (omega arith) (omega arith) (long-unpacks s 1) (long-read s 1) l (simp f at q))
-      (λ f. either (eqb (length s) 4) (λ g. alone-digits s 3 v (eqb-true (length s) 4 g) (omega arith) (omega arith) (short-unpacks s 1) (short-read s 1) l (simp (f, g) at q))
-      (λ g. let z : v ≡ noColor = simp (f, g) at q in absurd (omega arith)))
+      either (eqb (length s) 7) (λ f. alone-digits s 6 v (eqb-true (length s) 7 f) (omega arith) (omega arith) (long-unpacks s 1 255 (omega arith)) (long-read s 1) l (simp f at q))
+      (λ f. either (eqb (length s) 4) (λ g. alone-digits s 3 v (eqb-true (length s) 4 g) (omega arith) (omega arith) (short-unpacks s 1 255 (omega arith)) (short-read s 1) l (simp (f, g) at q))
+      (λ g. either (eqb (length s) 9) (λ i. alone-digits s 8 v (eqb-true (length s) 9 i) (omega arith) (omega arith) (long-unpacks s 1 (hexPair s 7) (pair-below s 7)) (long-alpha s 1) l (simp (f, g, i) at q))
+      (λ i. either (eqb (length s) 5) (λ j. alone-digits s 4 v (eqb-true (length s) 5 j) (omega arith) (omega arith) (short-unpacks s 1 (shortHex s 4) (twice-below s 4)) (short-alpha s 1) l (simp (f, g, i, j) at q))
+      (λ j. let z : v ≡ noColor = simp (f, g, i, j) at q in absurd (omega arith)))))
 
 -- `&text[0..]` is the text
 pub whole-alone : (s : List ℕ) {v : ℕ} → v ≡ hexAlone (take (length s - 0) (drop 0 s)) → v ≡ hexAlone s

@@ -6,7 +6,7 @@ use lib.Dec.{eqb, leb}
 use lib.ListN.{length, getD}
 use Rattle.stream.specs.Bytes.{isHexDigit}
 use Rattle.stream.specs.Scan.{scan}
-use Rattle.color.specs.Hex.{fromHex, shortColor, longColor}
+use Rattle.color.specs.Hex.{fromHex, shortHex, hexPair, shortColor, longColor}
 use Rattle.color.specs.declared.Color.{Color}
 
 -- a colour as one number, red lowest
@@ -33,8 +33,18 @@ sixDigits s i = cond (leb (i + 6) (scan isHexDigit s i)) (packed (longColor s i 
 unfoldable pub threeDigits : List ℕ → ℕ → ℕ
 threeDigits s i = cond (leb (i + 3) (scan isHexDigit s i)) (packed (shortColor s i 255)) noColor
 
--- a text of 7 bytes or of 4 that is `#` (35) and digits
+-- six, and two of alpha
+unfoldable pub eightDigits : List ℕ → ℕ → ℕ
+eightDigits s i = cond (leb (i + 8) (scan isHexDigit s i)) (packed (longColor s i (hexPair s (i + 6)))) noColor
+
+-- three, and one of alpha
+unfoldable pub fourDigits : List ℕ → ℕ → ℕ
+fourDigits s i = cond (leb (i + 4) (scan isHexDigit s i)) (packed (shortColor s i (shortHex s (i + 3)))) noColor
+
+-- a text of 7, 4, 9 or 5 bytes that is `#` (35) and digits
 unfoldable pub hexAlone : List ℕ → ℕ
 hexAlone s =
     cond (eqb (length s) 7) (cond (eqb (getD s 0 0) 35) (sixDigits s 1) noColor)
-    (cond (eqb (length s) 4) (cond (eqb (getD s 0 0) 35) (threeDigits s 1) noColor) noColor)
+    (cond (eqb (length s) 4) (cond (eqb (getD s 0 0) 35) (threeDigits s 1) noColor)
+    (cond (eqb (length s) 9) (cond (eqb (getD s 0 0) 35) (eightDigits s 1) noColor)
+    (cond (eqb (length s) 5) (cond (eqb (getD s 0 0) 35) (fourDigits s 1) noColor) noColor)))

@@ -6,7 +6,7 @@ ghost use lib.ListN.{length};
 ghost use Rattle.stream.specs.Bytes.{within};
 ghost use Rattle.color.specs.Color.{rgba};
 ghost use Rattle.color.specs.Hex.{fromHex, shortHex, hexPair, shortColor, longColor, parseHex};
-ghost use Rattle.color.specs.Flat.{packed, unpacked, hexDigit, sixDigits, threeDigits, hexAlone};
+ghost use Rattle.color.specs.Flat.{packed, unpacked, hexDigit, sixDigits, threeDigits, eightDigits, fourDigits, hexAlone};
 use crate::Color;
 use crate::ColorRead;
 use stream::Place;
@@ -33,7 +33,7 @@ pub fn unpacked(v: u64) -> Color
     }
 }
 
-// A text that is `#` and six or three digits: all ASCII, so it needs no test of UTF-8.
+// A text that is `#` and six, three, eight or four digits: all ASCII, so it needs no test of UTF-8.
 pub fn hex_alone(text: &[u8]) -> u64
     ensures { λ r. ⌜ r ≡ hexAlone (now (text .entry)) ⌝ }
 {
@@ -46,6 +46,18 @@ pub fn hex_alone(text: &[u8]) -> u64
     if text.len() == 4 {
         if text[0] == b'#' {
             return three_digits(text, 1);
+        }
+        return NO_COLOR;
+    }
+    if text.len() == 9 {
+        if text[0] == b'#' {
+            return eight_digits(text, 1);
+        }
+        return NO_COLOR;
+    }
+    if text.len() == 5 {
+        if text[0] == b'#' {
+            return four_digits(text, 1);
         }
     }
     NO_COLOR
@@ -101,6 +113,33 @@ fn three_digits(text: &[u8], at: usize) -> u64
     let c = hex_digit(text[at + 2]);
     if (a < 16) & ((b < 16) & (c < 16)) {
         return packed(a * 16 + a, b * 16 + b, c * 16 + c);
+    }
+    NO_COLOR
+}
+
+// Six digits, and two of alpha in place of 255.
+fn eight_digits(text: &[u8], at: usize) -> u64
+    requires { ⌜ at + 8 ≤ length (now text) ⌝ }
+    ensures { λ r. ⌜ r ≡ eightDigits (now (text .entry)) at ⌝ }
+{
+    let v = six_digits(text, at);
+    let g = hex_digit(text[at + 6]);
+    let h = hex_digit(text[at + 7]);
+    if (v < NO_COLOR) & ((g < 16) & (h < 16)) {
+        return v - 0xff00_0000 + ((g * 16 + h) as u64) * 0x100_0000;
+    }
+    NO_COLOR
+}
+
+// Three digits, and one of alpha, doubled.
+fn four_digits(text: &[u8], at: usize) -> u64
+    requires { ⌜ at + 4 ≤ length (now text) ⌝ }
+    ensures { λ r. ⌜ r ≡ fourDigits (now (text .entry)) at ⌝ }
+{
+    let v = three_digits(text, at);
+    let d = hex_digit(text[at + 3]);
+    if (v < NO_COLOR) & (d < 16) {
+        return v - 0xff00_0000 + ((d * 16 + d) as u64) * 0x100_0000;
     }
     NO_COLOR
 }
