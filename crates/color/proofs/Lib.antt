@@ -2,6 +2,7 @@ pub mod Steps
 pub mod Digits
 pub mod Flat
 pub mod Alpha
+pub mod Told
 pub mod Shifts
 pub mod Values
 pub mod Sames

@@ -14,6 +14,7 @@ use stream::Place;
 use stream::Refusal;
 
 mod hex;
+mod rgb;
 
 pub use hex::NO_COLOR;
 pub use hex::hex_alone;
@@ -30,6 +31,15 @@ pub struct Color {
 pub enum ColorRead {
     Value(Color, Place),
     Refused(Fault),
+}
+
+// A colour that is told at once: `end` is 0 where nothing is told.
+struct QuickColor {
+    red: u8,
+    green: u8,
+    blue: u8,
+    alpha: u8,
+    end: usize,
 }
 
 pub enum ColorAnswer {
@@ -87,6 +97,24 @@ pub fn parse_color(text: &[u8], at: Place) -> ColorRead
     }
     if text[i] == b'#' {
         return hex::parse_hex(text, Place(i + 1));
+    }
+    if text[i] == b'r' {
+        let from = rgb::rgb_start(text, start);
+        if 0 < from {
+            let q = rgb::quick_rgb(text, from);
+            let end = q.end;
+            if 0 < end {
+                return ColorRead::Value(
+                    Color {
+                        red: q.red,
+                        green: q.green,
+                        blue: q.blue,
+                        alpha: q.alpha,
+                    },
+                    Place(end),
+                );
+            }
+        }
     }
     parse_word(text, start)
 }

@@ -1,26 +1,23 @@
 -- A name that is told by its bytes and its bracket is the name that the scan of a word reads.
-use Prim.Native.Nat.{ℕ, suc, _+_, _-_, _≤_, _<_}
-use mathlib.Core.Bool.{Bool, true, false, _&&_}
-use mathlib.Core.List.{List, [], _∷_, _++_}
-use mathlib.Core.Path.{_≡_, refl, sym, ap, _∙_}
+use Prim.Native.Nat.{ℕ, _+_, _≤_, _<_}
+use mathlib.Core.Bool.{Bool, true}
+use mathlib.Core.List.{List, [], _∷_}
+use mathlib.Core.Path.{_≡_, refl, sym, _∙_}
 use native.Mathlib.Omega.{arith}
-use borrow.Author.Tests.{eqb-true, lt-leb}
-use lib.Dec.{eqb}
-use lib.ListN.{length, getD, take, drop, length-drop}
-use lib.Seq.{getD-drop}
+use lib.ListN.{length, drop}
 use mir.Syntax.{w64}
 use mir.Val.{Fits}
 use Rattle.stream.specs.Bytes.{within, isSpace, isAsciiIdent}
 use Rattle.stream.specs.Faults.{place, consumeByte}
 use Rattle.stream.specs.Flow.{bind}
 use Rattle.stream.specs.Moves.{thenConsumed}
-use Rattle.stream.specs.Scan.{run, scan}
+use Rattle.stream.specs.Scan.{scan}
 use Rattle.stream.specs.Words.{ascii, startsWith, same, part}
 use Rattle.stream.specs.declared.Consumed.{Consumed}
 use Rattle.stream.specs.declared.Consumed.the-variants as K
 use Rattle.stream.specs.declared.Fault.{Fault}
 use Rattle.stream.specs.declared.Place.{Place}
-use Rattle.stream.proofs.Scans.{scan-start, scan-stop}
+use Rattle.stream.proofs.Opening.{bracketed, isWord, opens, word-ends, word-bytes, word-unspaced, word-opened}
 use Rattle.stream.proofs.Wording.{word-inside}
 use Rattle.filter_functions.specs.Moves.{thenFilter}
 use Rattle.filter_functions.specs.Filters.{plainName, filterName, opened, parseName, argumentOf, parseArgument, closeBracket, parseNext}
@@ -41,65 +38,6 @@ unfolding startsWith
 stands-nothing l = refl
 
 pub ruleset standing = (stands, stands-nothing)
-
-abbrev bracketed : List ℕ → List ℕ
-bracketed w = w ++ (40 ∷ [])
-
-abbrev isWord : List ℕ → Bool
-isWord [] = true
-isWord (x ∷ xs) = isAsciiIdent x && isWord xs
-
--- l begins with the word w and a bracket: the word ends there, and no byte before
-record Opens (w l : List ℕ) : Type 0 where
-  word : run isAsciiIdent l ≡ length w
-  bytes : take (length w) l ≡ w
-  bracket : getD l (length w) 0 ≡ 40
-  inside : length w < length l
-
-opens : (w l : List ℕ) → isWord w ≡ true → startsWith (bracketed w) l ≡ true → Opens w l
-unfolding startsWith run within
-opens [] [] h e = let z : _≡_ {A = ℕ} 0 1 = cc in absurd (omega arith)
-opens [] (x ∷ xs) h e = go (eqb x 40) refl e
-  where
-    go : (t : Bool) → eqb x 40 ≡ t → (t && true) ≡ true → Opens [] (x ∷ xs)
-    go true q f = let k : x ≡ 40 = eqb-true x 40 q in record { word = simp k; bytes = refl; bracket = k; inside = omega arith }
-    go false q f = let z : _≡_ {A = ℕ} 0 1 = cc in absurd (omega arith)
-opens (w ∷ ws) [] h e = let z : _≡_ {A = ℕ} 0 1 = cc in absurd (omega arith)
-opens (w ∷ ws) (x ∷ xs) h e = go (eqb x w) refl (isAsciiIdent w) refl h e (opens ws xs)
-  where
-    go : (t : Bool) → eqb x w ≡ t → (u : Bool) → isAsciiIdent w ≡ u → (u && isWord ws) ≡ true → (t && startsWith (bracketed ws) xs) ≡ true
-        → (isWord ws ≡ true → startsWith (bracketed ws) xs ≡ true → Opens ws xs) → Opens (w ∷ ws) (x ∷ xs)
-    go true q true p h e ih =
-        let k : x ≡ w = eqb-true x w q in
-        let o = ih h e in
-        record { word = rw (k, p) (ap suc (o .word)); bytes = cc; bracket = o .bracket; inside = omega (arith, o .inside) }
-    go false q u p h e ih = let z : _≡_ {A = ℕ} 0 1 = cc in absurd (omega arith)
-    go true q false p h e ih = let z : _≡_ {A = ℕ} 0 1 = cc in absurd (omega arith)
-
--- so at a place of a text
-module _ (w s : List ℕ) (i : ℕ) (o : Opens w (drop i s)) where
-  word-ends : scan isAsciiIdent s i ≡ i + length w
-  unfolding scan
-  word-ends = ap (λ (k : ℕ). i + k) (o .word)
-
-  word-bytes : part s i (i + length w) ≡ w
-  unfolding part
-  word-bytes = let z : i + length w - i ≡ length w = omega arith in rw z (o .bytes)
-
-  word-bracket : getD s (i + length w) 0 ≡ 40
-  word-bracket = rw getD-drop at (o .bracket)
-
-  word-before : i + length w < length s
-  word-before = omega (arith, o .inside, length-drop i s)
-
-  word-unspaced : scan isSpace s (i + length w) ≡ i + length w
-  word-unspaced =
-      let f : false ≡ isSpace (getD s (i + length w) 0) = rw word-bracket refl in
-      sym (scan-stop (scan-start isSpace s (i + length w)) f refl word-before)
-
-  word-opened : consumeByte s (i + length w) 40 ≡ K.Next (place (i + length w + 1))
-  unfolding consumeByte
-  word-opened = simp (lt-leb (length s) (i + length w) word-before, word-bracket)
 
 -- a word that stands directly before its bracket
 told : (w s : List ℕ) (i n : ℕ) {f : FilterName} → isWord w ≡ true → filterName w ≡ f → startsWith (bracketed w) (drop i s) ≡ true → n ≡ length w + 1 → M.Named f (place (i + n)) ≡ parseName s i

@@ -3,6 +3,7 @@ pub mod Scans
 pub mod Flows
 pub mod Parts
 pub mod Wording
+pub mod Opening
 pub mod Ahead
 pub mod Shifts
 pub mod Sames
