@@ -5,8 +5,8 @@ use mathlib.Core.List.{List, [], _∷_}
 use mathlib.Core.Path.{_≡_, refl, sym, _∙_}
 use native.Mathlib.Nat.{add-zero}
 use native.Mathlib.Omega.{arith}
-use borrow.Author.Tests.{eqb-true, lt-ltb, lt-leb, ne-eqb, not-true}
-use lib.Dec.{eqb, ltb}
+use borrow.Author.Tests.{lt-ltb, lt-leb, ne-eqb, not-true}
+use lib.Dec.{ltb}
 use lib.ListN.{length, getD, take, drop}
 use lib.Seq.{getD-drop}
 use Rattle.stream.specs.Bytes.{isSpace, isDigit, isAsciiIdent}
@@ -34,14 +34,12 @@ use Rattle.color.specs.Color.{isRgb, isHsl, namedColor, parseWord, parseColor}
 use Rattle.color.specs.declared.Color.{Color}
 use Rattle.color.specs.declared.ColorRead.{ColorRead}
 use Rattle.color.specs.declared.ColorRead.the-variants as R
-use Rattle.filter_functions.specs.Filters.{opened, argumentOf, closeBracket, parseNext, parseStep}
-use Rattle.filter_functions.specs.Moves.{thenFilter}
+use Rattle.filter_functions.specs.Filters.{closeBracket, parseStep}
 use Rattle.filter_functions.specs.Quick.{isOffset, isDeviation, lengthOf, closing, Tells, TellsLengths, TellsClosed, TellsBefore, TellsHeld}
 use Rattle.filter_functions.specs.Shadow.{shadow, tryParseColor, parseDeviation, parseShadowLengths, shadowAfter, shadowBefore, parseDropShadowFunc}
 use Rattle.filter_functions.specs.Values.{isPercent, parseFilterLength}
 use Rattle.filter_functions.specs.declared.ColorTry.the-variants as C
 use Rattle.filter_functions.specs.declared.DeviationRead.the-variants as D
-use Rattle.filter_functions.specs.declared.FilterName.{FilterName}
 use Rattle.filter_functions.specs.declared.FilterName.the-variants as M
 use Rattle.filter_functions.specs.declared.FilterRead.the-variants as F
 use Rattle.filter_functions.specs.declared.QuickShadow.{QuickShadow}
@@ -49,7 +47,7 @@ use Rattle.filter_functions.specs.declared.ShadowColor.{ShadowColor}
 use Rattle.filter_functions.specs.declared.ShadowColor.the-variants as O
 use Rattle.filter_functions.specs.declared.ShadowLengths.the-variants as L
 use Rattle.filter_functions.specs.declared.StepRead.the-variants as S
-use Rattle.filter_functions.proofs.Naming.{quick-named, next-named}
+use Rattle.filter_functions.proofs.Told.{step-opened}
 
 drop-first : (s : List ℕ) (i : ℕ) → getD (drop i s) 0 0 ≡ getD s i 0
 drop-first s i = rw (getD-drop, add-zero) refl
@@ -65,35 +63,14 @@ module _ (s : List ℕ) (i : ℕ) (h : 36 ≤ getD s i 0) where
       let t : isSpace b ≡ false = simp (ne-eqb b 32 (λ e. omega arith), ne-eqb b 9 (λ e. omega arith), ne-eqb b 10 (λ e. omega arith), ne-eqb b 13 (λ e. omega arith)) in
       scan-here isSpace s i t byte-there
 
--- a word's first byte is the text's
-word-first : (w : ℕ) (ws l : List ℕ) → startsWith (w ∷ ws) l ≡ true → getD l 0 0 ≡ w
-unfolding startsWith
-word-first w ws [] e = let z : _≡_ {A = ℕ} 0 1 = cc in absurd (omega arith)
-word-first w ws (x ∷ xs) e = eqb-true x w (and-first (eqb x w) (startsWith ws xs) e)
-
+-- a word does not stand where another byte than its first does
 starts-other : (w : ℕ) (ws l : List ℕ) → (getD l 0 0 ≡ w → ⊥) → startsWith (w ∷ ws) l ≡ false
 unfolding startsWith
 starts-other w ws [] n = refl
 starts-other w ws (x ∷ xs) n = simp (ne-eqb x w n)
 
--- a step at a name that is told with its bracket: w is the name's first byte
-module _ (s : List ℕ) (at : ℕ) (f : FilterName) (w : ℕ) (ws : List ℕ) (o : opened f ≡ w ∷ ws) (e : startsWith (opened f) (drop at s) ≡ true) where
-  next-opened : parseNext s at ≡ thenFilter F.Refused (argumentOf f s at (scan isSpace s (at + suc (length ws)))) (λ v q. closeBracket s (q .0) v)
-  unfolding bind
-  next-opened =
-      let k : suc (length ws) ≡ length (opened f) = rw o refl in
-      sym (next-named _ s at _ (quick-named s at (suc (length ws)) f e k (omega arith)) f _ refl refl)
-
-  step-opened : 36 ≤ w → (w ≡ 110 → ⊥) → parseStep s at ≡ closing s (argumentOf f s at (scan isSpace s (at + suc (length ws))))
-  unfolding parseStep closing bind
-  step-opened t u =
-      let h : getD s at 0 ≡ w = sym (drop-first s at) ∙ word-first w ws (drop at s) (rw o at e) in
-      let k : 36 ≤ getD s at 0 = rw h t in
-      let n : startsWith (ascii "none") (drop at s) ≡ false = starts-other 110 (ascii "one") (drop at s) (λ q. u (sym h ∙ sym (drop-first s at) ∙ q)) in
-      simp (unspaced s at k, lt-leb (length s) at (byte-there s at k), n, next-opened)
-
 step-shadow : (s : List ℕ) (at : ℕ) → startsWith (ascii "drop-shadow(") (drop at s) ≡ true → parseStep s at ≡ closing s (parseDropShadowFunc s at (scan isSpace s (at + 12)))
-step-shadow s at e = step-opened s at M.DropShadow 100 (ascii "rop-shadow(") refl e (omega arith) (λ q. omega arith)
+step-shadow s at e = step-opened s at 12 M.DropShadow e refl (omega arith)
 
 -- no word that a byte below the letters begins, or that is empty, is a function or a name
 take-below : (k : ℕ) (l : List ℕ) → getD l 0 0 < 65 → getD (take k l) 0 0 < 65

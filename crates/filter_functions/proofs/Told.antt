@@ -5,7 +5,7 @@ use mathlib.Core.List.{List, [], _∷_, _++_}
 use mathlib.Core.Path.{_≡_, refl, sym, _∙_}
 use native.Mathlib.Nat.{add-zero}
 use native.Mathlib.Omega.{arith}
-use borrow.Author.Tests.{eqb-true, eq-eqb, lt-leb, lt-ltb, ltb-true}
+use borrow.Author.Tests.{eqb-true, eq-eqb, lt-leb, lt-ltb, ltb-true, not-true}
 use lib.Dec.{ltb, eqb}
 use lib.Ieee.{binary64, div}
 use lib.ListN.{length, getD, drop}
@@ -39,14 +39,14 @@ use Rattle.length.proofs.Values.{length-known}
 use Rattle.angle.specs.Angles.{parseUnit}
 use Rattle.angle.specs.declared.AngleUnit.the-variants as W
 use Rattle.filter_functions.specs.Filters.{opened, argumentOf, closeBracket, parseNext, parseStep}
-use Rattle.filter_functions.specs.Quick.{orTold, isOpened, valueRead}
+use Rattle.filter_functions.specs.Moves.{thenFilter}
+use Rattle.filter_functions.specs.Quick.{orTold, isOpened, valueRead, closing}
 use Rattle.filter_functions.specs.Values.{isPercent, plainValue, parseFilterPositiveLength, parseFilterAngle, parseBlur, parseHueRotate, parseGenericColorFunc, parseUrl}
 use Rattle.filter_functions.specs.declared.FilterName.{FilterName}
 use Rattle.filter_functions.specs.declared.FilterName.the-variants as N
 use Rattle.filter_functions.specs.declared.FilterRead.the-variants as F
 use Rattle.filter_functions.specs.declared.FilterValue.{FilterValue}
 use Rattle.filter_functions.specs.declared.FilterValue.the-variants as G
-use Rattle.filter_functions.specs.declared.NameRead.the-variants as M
 use Rattle.filter_functions.specs.declared.Plain.{Plain}
 use Rattle.filter_functions.specs.declared.Plain.the-variants as P
 use Rattle.filter_functions.specs.declared.PlainName.{PlainName}
@@ -80,10 +80,6 @@ opened-leads (N.Plain P.Saturate) h = refl
 opened-leads (N.Plain P.Sepia) h = refl
 opened-leads N.Url h = refl
 opened-leads N.Unknown h = absurd (omega arith)
-
-not-true : (t : Bool) → not t ≡ true → t ≡ false
-not-true true e = sym e
-not-true false e = refl
 
 or-first : (t u : Bool) → (t || u) ≡ false → t ≡ false
 or-first true u e = e
@@ -146,15 +142,23 @@ closed : (s : List ℕ) (e : ℕ) (v : FilterValue) → isCurrByteEq s e 41 ≡ 
 unfolding closeBracket bind
 closed s e v c = simp (curr-still s e 41 refl c, curr-consumed s e 41 refl c)
 
--- a name with its bracket, of n bytes, an argument that ends at e, and the bracket there
+-- a step at a name that is told with its bracket, of n bytes: what the brackets hold, and their end
+module _ (s : List ℕ) (at n : ℕ) (f : FilterName) (w : startsWith (opened f) (drop at s) ≡ true) (k : n ≡ length (opened f)) (z : 0 < n) where
+  next-opened : parseNext s at ≡ thenFilter F.Refused (argumentOf f s at (scan isSpace s (at + n))) (λ v q. closeBracket s (q .0) v)
+  unfolding bind
+  next-opened = sym (next-named _ s at _ (quick-named s at n f w k z) f _ refl refl)
+
+  pub step-opened : parseStep s at ≡ closing s (argumentOf f s at (scan isSpace s (at + n)))
+  unfolding parseStep closing bind
+  step-opened =
+      let b = begins (opened f) s at (opened-leads f (omega arith)) w in
+      simp (b .still, lt-leb (length s) at (b .inside), b .other, next-opened)
+
+-- an argument that ends at e, and the bracket there
 pub step-closed : (s : List ℕ) (at n e : ℕ) (f : FilterName) (v : FilterValue) → startsWith (opened f) (drop at s) ≡ true → n ≡ length (opened f) → 0 < n
     → argumentOf f s at (scan isSpace s (at + n)) ≡ F.Value v (place e) → isCurrByteEq s e 41 ≡ true → parseStep s at ≡ S.Value v (place (scan isSpace s (e + 1)))
-unfolding parseStep bind
-step-closed s at n e f v w k z a c =
-    let b = begins (opened f) s at (opened-leads f (omega arith)) w in
-    let after : F.Value v (place (e + 1)) ≡ parseNext s at =
-    next-named (F.Value v (place (e + 1))) s at (M.Named f (place (at + n))) (quick-named s at n f w k z) f (place (at + n)) refl (simp (a, closed s e v c)) in
-    simp (b .still, lt-leb (length s) at (b .inside), b .other, ← after)
+unfolding closing bind
+step-closed s at n e f v w k z a c = step-opened s at n f w k z ∙ simp (a, closed s e v c)
 
 -- a link from at + 5 to e, where the flag t told the bracket
 module _ (s : List ℕ) (at : ℕ) {e : ℕ} {t : Bool} (d : e ≡ scan isUrlByte s (at + 5)) (c : t ≡ isCurrByteEq s e 41) (h : (ltb (at + 5) e && t) ≡ true) where

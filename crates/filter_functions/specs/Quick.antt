@@ -2,36 +2,37 @@
 use Prim.Native.Nat.{ℕ}
 use mathlib.Core.Bool.{Bool, true, _&&_, cond, not}
 use mathlib.Core.List.{List}
+use mathlib.Core.Path.{_≡_}
 use lib.Dec.{ltb, eqb}
 use lib.ListN.{length}
+use Rattle.stream.specs.Bytes.{isSpace}
 use Rattle.stream.specs.Faults.{place}
+use Rattle.stream.specs.Flow.{bind}
+use Rattle.stream.specs.Scan.{scan}
 use Rattle.stream.specs.Words.{startsWith}
 use Rattle.floats.specs.Floats.{d0, signOf}
 use Rattle.numbers.specs.declared.NumberRead.{NumberRead}
 use Rattle.numbers.specs.declared.NumberRead.the-variants as R
 use Rattle.numbers.specs.declared.Quick.{Quick}
-use Rattle.filter_functions.specs.Filters.{opened, closeBracket}
-use Rattle.filter_functions.specs.declared.FilterName.the-variants as N
-use Rattle.filter_functions.specs.declared.FilterValue.{FilterValue}
-use Rattle.filter_functions.specs.declared.PlainName.{PlainName}
-use mathlib.Core.Path.{_≡_}
-use Rattle.stream.specs.Bytes.{isSpace}
-use Rattle.stream.specs.Flow.{bind}
-use Rattle.stream.specs.Scan.{scan}
 use Rattle.length.specs.declared.Length.{Length}
 use Rattle.length.specs.declared.QuickLength.{QuickLength}
+use Rattle.filter_functions.specs.Filters.{opened, closeBracket}
 use Rattle.filter_functions.specs.Moves.{thenFilter}
 use Rattle.filter_functions.specs.Shadow.{shadow, parseShadowLengths, shadowBefore, parseDropShadowFunc}
 use Rattle.filter_functions.specs.Values.{isPercent}
-use Rattle.filter_functions.specs.declared.FilterRead.{FilterRead}
+use Rattle.filter_functions.specs.declared.FilterName.the-variants as N
 use Rattle.filter_functions.specs.declared.FilterRead.the-variants as F
+use Rattle.filter_functions.specs.declared.FilterRead.{FilterRead}
 use Rattle.filter_functions.specs.declared.FilterValue.the-variants as G
+use Rattle.filter_functions.specs.declared.FilterValue.{FilterValue}
+use Rattle.filter_functions.specs.declared.PlainName.{PlainName}
 use Rattle.filter_functions.specs.declared.QuickShadow.{QuickShadow}
 use Rattle.filter_functions.specs.declared.ShadowColor.{ShadowColor}
 use Rattle.filter_functions.specs.declared.ShadowLengths.the-variants as L
-use Rattle.filter_functions.specs.declared.StepRead.{StepRead}
 use Rattle.filter_functions.specs.declared.StepRead.the-variants as S
+use Rattle.filter_functions.specs.declared.StepRead.{StepRead}
 
+-- the value v, which ends before `next`
 abbrev pub orTold : ℕ → FilterValue → StepRead → StepRead
 orTold next v x = cond (ltb 0 next) (S.Value v (place next)) x
 
