@@ -4,7 +4,7 @@ use mathlib.Core.Bool.{Bool, true, false, _&&_, _||_, not, cond, true≢false}
 use mathlib.Core.List.{List}
 use mathlib.Core.Path.{_≡_, refl, sym, _∙_}
 use mathlib.Core.Logic.{⊎-elim}
-use lib.Dec.{T, leb, ltb, eqb, le→leb}
+use lib.Dec.{T, leb, ltb, eqb, le→leb, lit<}
 use lib.IntN.{pos}
 use lib.Ieee.{Float, binary64, ofInt, mul, div, neg, inFloat}
 use lib.ListN.{length, getD, drop, List·getD-eq-default, drop-of-length-le}
@@ -330,19 +330,27 @@ run-digit s i h =
     (λ (l : length s ≤ i). let z : scan isDigit s i ≡ i = simp (drop-of-length-le s l) (omega arith) in absurd (omega arith))
     (lt-or-le i (length s))
 
--- and has no sign before it
+-- a digit is neither a space nor a sign
 pub record Unsigned (s : List ℕ) (i : ℕ) : Type 0 where
+  pub space : isSpace (getD s i 0) ≡ false
   pub sign : i ≡ afterSign s i
   pub minus : eqb (getD s i 0) 45 ≡ false
   pub begins : startsNumber (getD s i 0) ≡ true
 
-pub run-unsigned : (s : List ℕ) (i : ℕ) → i < scan isDigit s i → Unsigned s i
-run-unsigned s i h =
-    let first = run-digit s i h .1 in
+pub digit-unsigned : (s : List ℕ) (i : ℕ) → isDigit (getD s i 0) ≡ true → Unsigned s i
+digit-unsigned s i first =
     let low = within-ge 48 57 (getD s i 0) (sym first) in
-    let plus : eqb (getD s i 0) 43 ≡ false = ne-eqb (getD s i 0) 43 (λ e. omega arith) in
-    let none : eqb (getD s i 0) 45 ≡ false = ne-eqb (getD s i 0) 45 (λ e. omega arith) in
-    record { sign = sign-no s i {r = isSign (getD s i 0)} refl (simp (plus, none)); minus = none; begins = simp first }
+    let other : (c : ℕ) → c < 48 → eqb (getD s i 0) c ≡ false = λ c l. ne-eqb (getD s i 0) c (λ e. omega arith) in
+    let none = other 45 (lit< tt) in
+    record {
+      space = simp (other 32 (lit< tt), other 9 (lit< tt), other 10 (lit< tt), other 13 (lit< tt));
+      sign = sign-no s i {r = isSign (getD s i 0)} refl (simp (other 43 (lit< tt), none));
+      minus = none;
+      begins = simp first;
+    }
+
+pub run-unsigned : (s : List ℕ) (i : ℕ) → i < scan isDigit s i → Unsigned s i
+run-unsigned s i h = digit-unsigned s i (run-digit s i h .1)
 
 starts-inside : (s : List ℕ) (i : ℕ) → startsNumber (getD s i 0) ≡ true → i < length s
 unfolding within

@@ -17,13 +17,14 @@ use Rattle.stream.specs.Scan.{scan}
 use Rattle.stream.specs.Words.{isCurrByteEq}
 use Rattle.stream.proofs.Octets.{and-first, and-second}
 use Rattle.stream.proofs.Ranges.{either, lt-or-le}
+use Rattle.stream.proofs.Scans.{scan-here}
 use Rattle.stream.proofs.Wording.{curr-inside, curr-byte}
-use Rattle.numbers.proofs.Steps.{Short, whole-made, decimal-made, number-begins, formed-starts, run-unsigned, not-true, neither, no-exponent}
+use Rattle.numbers.proofs.Steps.{Short, whole-made, decimal-made, number-begins, formed-starts, digit-unsigned, run-unsigned, not-true, neither, no-exponent}
 use Rattle.numbers.proofs.Values.{number-known}
 use Rattle.numbers.specs.Digits.{value, cap}
 use Rattle.numbers.specs.Held.{heldMantissa, isTold}
 use Rattle.numbers.specs.Number.{afterSign, mantissaAt, mantissaDot, exponentAt, exponentFrom, noExponent, valueOf, parseNumber}
-use Rattle.numbers.specs.Quick.{isWhole, told, quickly}
+use Rattle.numbers.specs.Quick.{isWhole, told, quickly, TellsFrom}
 use Rattle.numbers.specs.declared.Mantissa.{Mantissa}
 use Rattle.numbers.specs.declared.Quick.{Quick}
 
@@ -91,8 +92,11 @@ tells s at q e =
     (rw (lt-ltb 0 (q .end) (omega (arith, known .least))) e, known .inside)
 
 -- a silent reader tells nothing wrong
-pub silent : (s : List ℕ) (at : ℕ) (q : Quick) → q .end ≡ 0 → (quickly s at q ≡ parseNumber s at) × (q .end ≤ length s)
+silent : (s : List ℕ) (at : ℕ) (q : Quick) → q .end ≡ 0 → (quickly s at q ≡ parseNumber s at) × (q .end ≤ length s)
 silent s at q e = (rw e, omega (arith, e))
+
+pub silent-from : (s : List ℕ) (from : ℕ) (minus : Bool) (q : Quick) → q .end ≡ 0 → TellsFrom s from minus q
+silent-from s from minus q e = record { tells = λ at _ _. silent s at q e }
 
 plain-mantissa : (s : List ℕ) (from : ℕ) {last : ℕ} → last ≡ scan isDigit s from → eqb (getD s last 0) 46 ≡ false → from < last
     → ((mantissaAt s from) .ok ≡ true) × ((mantissaAt s from) .dotted ≡ false)
@@ -103,54 +107,84 @@ dot-mantissa : (s : List ℕ) (from : ℕ) {last : ℕ} → last ≡ scan isDigi
 unfolding mantissaAt mantissaDot
 dot-mantissa s from d dot = simp (← d, dot)
 
-module _ (s : List ℕ) (at : ℕ) {i b from last : ℕ} (z : i ≡ scan isSpace s at) (p : b ≡ getD s i 0) (q : from ≡ afterSign s i) (d : last ≡ scan isDigit s from) where
-  -- digits that neither a dot nor an exponent follows
-  whole-told : {n : ℕ} → n ≡ min cap (value 0 (drop from s)) → eqb (getD s last 0) 46 ≡ false → exponentAt s last ≡ noExponent last → from < last → n < cap
-      → told s at (valueOf (eqb b 45) n false 0) last ≡ parseNumber s at
-  whole-told {n} v dot none h small =
-      let m = plain-mantissa s from d dot h in
-      let w : true ≡ isWhole s at = rw (← z, ← q, m .1) in
-      rw (← w) (number-begins s at z (formed-starts s i (rw (← q) (m .0))) (whole-made s i p q d v dot none (lt-ltb from last h) small))
+-- neither a dot nor an exponent stands at a place
+pub record Ends (s : List ℕ) (at : ℕ) : Type 0 where
+  pub dot : eqb (getD s at 0) 46 ≡ false
+  pub none : exponentAt s at ≡ noExponent at
 
-  -- digits and a fraction
-  fraction-told : {m : Mantissa} → m ≡ heldMantissa (mantissaAt s from) → getD s last 0 ≡ 46 → isTold s m ≡ true → length s ≤ 4096
-      → told s at (valueOf (eqb b 45) (m .value) true (m .fraction)) (m .end) ≡ parseNumber s at
-  fraction-told {m} k dot t l =
-      let dotted = dot-mantissa s from d dot in
-      let w : false ≡ isWhole s at = rw (← z, ← q, dotted) in
-      let formed : m .ok ≡ true = and-first (m .ok) _ t in
-      let size = and-second (m .ok) _ t in
-      let rest = and-second (ltb (m .value) cap) _ size in
-      let short : Short m =
-      record {
-        formed = formed;
-        dotted = rw k dotted;
-        small = ltb-true (m .value) cap (and-first _ _ size);
-        short = omega (arith, leb-true (m .fraction) 22 (and-first _ _ rest));
-      } in
-      let none = unwritten s (m .end) (not-true ((exponentAt s (m .end)) .written) (and-second (leb (m .fraction) 22) _ rest)) in
-      rw (← w) (number-begins s at z (formed-starts s i (rw (← q) (rw k at formed))) (decimal-made s i p q k short none l))
+module _ (s : List ℕ) (at : ℕ) where
+  pub ends-past : length s ≤ at → Ends s at
+  ends-past h =
+      let zero = List·getD-eq-default s 0 h in
+      record { dot = simp zero; none = no-exponent s at (simp zero) }
 
-  pub fraction-tells : (x : Quick) {m : Mantissa} {c : ℕ} → m ≡ heldMantissa (mantissaAt s from) → c ≡ getD s last 0 → c ≡ 46 → length s ≤ 4096
-      → x .end ≡ cond (isTold s m) (m .end) 0 → x .value ≡ cond (isTold s m) (valueOf (eqb b 45) (m .value) true (m .fraction)) (x .value)
-      → (quickly s at x ≡ parseNumber s at) × (x .end ≤ length s)
-  fraction-tells x {m} k y dot l e v =
+  module _ (dot : getD s at 0 ≡ 46 → ⊥) {x : Bool} where
+    pub ends-byte : x ≡ (eqb (getD s at 0) 101 || eqb (getD s at 0) 69) → x ≡ false → Ends s at
+    ends-byte k e = record { dot = ne-eqb (getD s at 0) 46 dot; none = no-exponent s at (sym k ∙ e) }
+
+    pub ends-unit : x ≡ (exponentAt s at) .written → x ≡ false → Ends s at
+    ends-unit k e = record { dot = ne-eqb (getD s at 0) 46 dot; none = unwritten s at (sym k ∙ e) }
+
+-- the digits from `from` on, and where spaces and a sign lead there from `at`
+module _ (s : List ℕ) {from last : ℕ} (minus : Bool) (d : last ≡ scan isDigit s from) where
+  module _ (at : ℕ) (q : from ≡ afterSign s (scan isSpace s at)) (w : minus ≡ eqb (getD s (scan isSpace s at) 0) 45) where
+    -- digits that neither a dot nor an exponent follows
+    whole-told : {n : ℕ} → n ≡ min cap (value 0 (drop from s)) → Ends s last → from < last → n < cap → told s at (valueOf minus n false 0) last ≡ parseNumber s at
+    whole-told {n} v e h small =
+        let i = scan isSpace s at in
+        let m = plain-mantissa s from d (e .dot) h in
+        let whole : true ≡ isWhole s at = rw (← q, m .1) in
+        rw (w, ← whole) (number-begins s at refl (formed-starts s i (rw (← q) (m .0))) (whole-made s i refl q d v (e .dot) (e .none) (lt-ltb from last h) small))
+
+    -- digits and a fraction
+    fraction-told : {m : Mantissa} → m ≡ heldMantissa (mantissaAt s from) → getD s last 0 ≡ 46 → isTold s m ≡ true → length s ≤ 4096
+        → told s at (valueOf minus (m .value) true (m .fraction)) (m .end) ≡ parseNumber s at
+    fraction-told {m} k dot t l =
+        let i = scan isSpace s at in
+        let dotted = dot-mantissa s from d dot in
+        let whole : false ≡ isWhole s at = rw (← q, dotted) in
+        let formed : m .ok ≡ true = and-first (m .ok) _ t in
+        let size = and-second (m .ok) _ t in
+        let rest = and-second (ltb (m .value) cap) _ size in
+        let short : Short m =
+        record {
+          formed = formed;
+          dotted = rw k dotted;
+          small = ltb-true (m .value) cap (and-first _ _ size);
+          short = omega (arith, leb-true (m .fraction) 22 (and-first _ _ rest));
+        } in
+        let none = unwritten s (m .end) (not-true ((exponentAt s (m .end)) .written) (and-second (leb (m .fraction) 22) _ rest)) in
+        rw (w, ← whole) (number-begins s at refl (formed-starts s i (rw (← q) (rw k at formed))) (decimal-made s i refl q k short none l))
+
+  pub fraction-tells : (x : Quick) {m : Mantissa} → m ≡ heldMantissa (mantissaAt s from) → getD s last 0 ≡ 46 → length s ≤ 4096
+      → x .end ≡ cond (isTold s m) (m .end) 0 → x .value ≡ cond (isTold s m) (valueOf minus (m .value) true (m .fraction)) (x .value) → TellsFrom s from minus x
+  fraction-tells x {m} k dot l e v =
       either (isTold s m)
       (λ t.
       let end : x .end ≡ m .end = simp t at e in
-      let number : x .value ≡ valueOf (eqb b 45) (m .value) true (m .fraction) = simp t at v in
-      tells s at x (rw (end, number) (fraction-told k (sym y ∙ dot) t l)))
-      (λ t. silent s at x (simp t at e))
+      let number : x .value ≡ valueOf minus (m .value) true (m .fraction) = simp t at v in
+      record { tells = λ at q w. tells s at x (rw (end, number) (fraction-told at q w k dot t l)) })
+      (λ t. silent-from s from minus x (simp t at e))
 
-  module _ {n c : ℕ} {x : Bool} (v : n ≡ min cap (value 0 (drop from s))) (y : c ≡ getD s last 0) (k : x ≡ (exponentAt s last) .written) (h : (ltb from last && (ltb n cap && not x)) ≡ true) where
-    pub whole-below : n < cap
-    whole-below = ltb-true n cap (and-first _ _ (and-second (ltb from last) _ h))
+  pub whole-tells : {n : ℕ} {f : Float} → n ≡ min cap (value 0 (drop from s)) → Ends s last → (ltb from last && ltb n cap) ≡ true → f ≡ valueOf minus n false 0
+      → TellsFrom s from minus (record { value = f; end = last })
+  whole-tells {n} v e h z =
+      let some : from < last = ltb-true from last (and-first _ _ h) in
+      let small : n < cap = ltb-true n cap (and-second (ltb from last) _ h) in
+      record { tells = λ at q w. tells s at _ (rw z (whole-told at q w v e some small)) }
 
-    pub whole-tells : {f : Float} → (c ≡ 46 → ⊥) → f ≡ valueOf (eqb b 45) n false 0
-        → (quickly s at (record { value = f; end = last }) ≡ parseNumber s at) × (last ≤ length s)
-    whole-tells dot e =
-        let none = unwritten s last (sym k ∙ not-true x (and-second (ltb n cap) _ (and-second (ltb from last) _ h))) in
-        tells s at _ (rw e (whole-told v (rw (← y) (ne-eqb c 46 dot)) none (ltb-true from last (and-first _ _ h)) whole-below))
+-- spaces and a sign have been passed
+pub spaced-tells : (s : List ℕ) (at : ℕ) {i b from : ℕ} {x : Quick} → i ≡ scan isSpace s at → from ≡ afterSign s i → b ≡ getD s i 0 → TellsFrom s from (eqb b 45) x
+    → (quickly s at x ≡ parseNumber s at) × (x .end ≤ length s)
+spaced-tells s at z q p t = t .tells at (rw (← z) q) (rw (← z, p))
+
+-- at a digit there is neither
+pub digit-tells : (s : List ℕ) (at : ℕ) {r : Bool} {x : Quick} → at < length s → r ≡ isDigit (getD s at 0) → r ≡ true → TellsFrom s at false x
+    → (quickly s at x ≡ parseNumber s at) × (x .end ≤ length s)
+digit-tells s at h k e t =
+    let first = digit-unsigned s at (sym k ∙ e) in
+    let here = scan-here isSpace s at (first .space) h in
+    t .tells at (rw here (first .sign)) (rw (here, first .minus))
 
 -- digits alone with the byte `stop` after them: t is what the test of that byte answered, u whether it is there
 module _ (s : List ℕ) (at stop : ℕ) {i last n : ℕ} {t u : Bool} (z : i ≡ scan isSpace s at) (d : last ≡ scan isDigit s i) (v : n ≡ min cap (value 0 (drop i s)))
@@ -161,17 +195,17 @@ module _ (s : List ℕ) (at stop : ℕ) {i last n : ℕ} {t u : Bool} (z : i ≡
   pub stopped-tells : {f : Float} → f ≡ valueOf false n false 0
       → (quickly s at (record { value = f; end = last }) ≡ parseNumber s at)
       × ((cond (ltb 0 last) (getD s last 0) stop ≡ stop) × (cond (ltb 0 last) (ltb last (length s)) true ≡ true))
-  stopped-tells {f} e =
+  stopped-tells e =
       let some : i < last = ltb-true i last (and-first _ _ h) in
       let both : (t && u) ≡ true = and-second (ltb n cap) _ (and-second (ltb i last) _ h) in
       let there : u ≡ true = and-second t u both in
       let byte : getD s last 0 ≡ stop = curr-byte s last stop k there in
       let after = neither (eqb stop 46) (eqb stop 101 || eqb stop 69) (sym w ∙ and-first t u both) in
       let first = run-unsigned s i (rw (← d) some) in
-      let none = no-exponent s last (rw byte (after .1)) in
-      let number = whole-told s at z refl (first .sign) d v (rw byte (after .0)) none some stopped-below in
+      let ends : Ends s last = record { dot = rw byte (after .0); none = no-exponent s last (rw byte (after .1)) } in
+      let number = whole-tells s false d v ends (simp (lt-ltb i last some, lt-ltb n cap stopped-below)) e .tells at (rw (← z) (first .sign)) (rw (← z, first .minus)) in
       let past : ltb 0 last ≡ true = lt-ltb 0 last (omega arith) in
-      (tells s at (record { value = f; end = last }) (rw e (rw (first .minus) at number)) .0, (simp (past, byte), simp (past, lt-ltb last (length s) (curr-inside s last stop k there))))
+      (number .0, (simp (past, byte), simp (past, lt-ltb last (length s) (curr-inside s last stop k there))))
 
 pub silent-stop : (s : List ℕ) (at stop : ℕ) (q : Quick) → q .end ≡ 0
     → (quickly s at q ≡ parseNumber s at) × ((cond (ltb 0 (q .end)) (getD s (q .end) 0) stop ≡ stop) × (cond (ltb 0 (q .end)) (ltb (q .end) (length s)) true ≡ true))

@@ -1,9 +1,11 @@
 -- What a quick reader's answer stands for: the number that it tells or, where it is silent, whatever is read. Only contracts of quick readers speak of it.
-use Prim.Native.Nat.{ℕ}
+use Prim.Native.Nat.{ℕ, _≤_}
 use mathlib.Core.Bool.{Bool, not, cond}
 use mathlib.Core.List.{List}
-use lib.Dec.{ltb}
+use mathlib.Core.Path.{_≡_}
+use lib.Dec.{ltb, eqb}
 use lib.Ieee.{Float}
+use lib.ListN.{length, getD}
 use Rattle.stream.specs.Bytes.{isSpace}
 use Rattle.stream.specs.Faults.{place}
 use Rattle.stream.specs.Scan.{scan}
@@ -22,3 +24,7 @@ told s at v end = N.Value (record { value = v; whole = isWhole s at; end = place
 
 abbrev pub quickly : List ℕ → ℕ → Quick → NumberRead
 quickly s at q = cond (ltb 0 (q .end)) (told s at (q .value) (q .end)) (parseNumber s at)
+
+-- the answer holds at every place from which spaces and a sign, minus (45) or not, lead to `from`
+pub record TellsFrom (s : List ℕ) (from : ℕ) (minus : Bool) (q : Quick) : Type 0 where
+  pub tells : (at : ℕ) → from ≡ afterSign s (scan isSpace s at) → minus ≡ eqb (getD s (scan isSpace s at) 0) 45 → (quickly s at q ≡ parseNumber s at) × (q .end ≤ length s)

@@ -6,7 +6,7 @@ ghost use lib.Dec.{ltb};
 ghost use lib.ListN.{length, getD};
 ghost use Rattle.numbers.specs.Held.{isTold};
 ghost use Rattle.numbers.specs.Number.{exponentAt, valueOf, parseNumber};
-ghost use Rattle.numbers.specs.Quick.{quickly};
+ghost use Rattle.numbers.specs.Quick.{quickly, TellsFrom};
 use crate::Mantissa;
 use crate::Quick;
 use crate::digits::LIMIT;
@@ -52,8 +52,36 @@ fn quick_decimal(text: &[u8], minus: bool, m: Mantissa) -> Quick
     untold()
 }
 
-// A number, spaces before it skipped.
-pub fn quick_number(text: &[u8], at: usize) -> Quick
+// A number whose first digit or dot stands at a place, after its sign if it has one.
+fn quick_from(text: &[u8], from: usize, minus: bool) -> Quick
+    requires { ⌜ length (now text) ≤ 4096 ⌝ }
+    ensures { λ r. ⌜ TellsFrom (now (text .entry)) from minus r ⌝ }
+{
+    let d = read_digits(text, from, 0);
+    let n = d.value;
+    let end = d.end;
+    if end < text.len() {
+        let b = text[end];
+        if b == b'.' {
+            return quick_decimal(text, minus, mantissa_at(text, from, d));
+        }
+        if is_e(b) {
+            if has_exponent(text, end) {
+                return untold();
+            }
+        }
+    }
+    if (from < end) & (n < LIMIT) {
+        return Quick {
+            value: value_of(minus, n, false, 0),
+            end,
+        };
+    }
+    untold()
+}
+
+// Spaces and a sign before the digits.
+fn quick_spaced(text: &[u8], at: usize) -> Quick
     requires { ⌜ length (now text) ≤ 4096 ⌝ }
     ensures { λ r. ⌜ quickly (now (text .entry)) at r ≡ parseNumber (now (text .entry)) at ⌝ }
     ensures { λ r. ⌜ r .end ≤ length (now (text .entry)) ⌝ }
@@ -61,20 +89,22 @@ pub fn quick_number(text: &[u8], at: usize) -> Quick
     let start = stream::skip_spaces(text, Place(at));
     let i = start.0;
     let from = after_sign(text, i);
-    let d = read_digits(text, from, 0);
-    let n = d.value;
-    let end = d.end;
     let minus = stream::byte_at(text, i) == b'-';
-    if stream::byte_at(text, end) == b'.' {
-        return quick_decimal(text, minus, mantissa_at(text, from, d));
+    quick_from(text, from, minus)
+}
+
+// A number, spaces before it skipped. Most begin with a digit, so that there is neither a space nor a sign to look for.
+pub fn quick_number(text: &[u8], at: usize) -> Quick
+    requires { ⌜ length (now text) ≤ 4096 ⌝ }
+    ensures { λ r. ⌜ quickly (now (text .entry)) at r ≡ parseNumber (now (text .entry)) at ⌝ }
+    ensures { λ r. ⌜ r .end ≤ length (now (text .entry)) ⌝ }
+{
+    if at < text.len() {
+        if stream::is_digit(text[at]) {
+            return quick_from(text, at, false);
+        }
     }
-    if (from < end) & ((n < LIMIT) & !has_exponent(text, end)) {
-        return Quick {
-            value: value_of(minus, n, false, 0),
-            end,
-        };
-    }
-    untold()
+    quick_spaced(text, at)
 }
 
 // A whole number without a sign, and the byte `stop` directly after it.
