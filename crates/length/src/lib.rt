@@ -102,6 +102,25 @@ fn parse_whole(text: &[u8]) -> LengthRead
     }
 }
 
+// A fault, field by field: copied whole out of one enum into another, its padding is copied, too, which waits for the stores
+// that lie beside it.
+fn anew(fault: Fault) -> Fault
+    ensures { λ r. ⌜ r ≡ fault ⌝ }
+{
+    let trouble = fault.trouble;
+    let at = fault.at;
+    let from = fault.from;
+    let to = fault.to;
+    Fault {
+        trouble,
+        at: Place(at.0),
+        from: Place(from.0),
+        to: Place(to.0),
+        found: fault.found,
+        wanted: fault.wanted,
+    }
+}
+
 // A number, and a unit directly after it. The slice is taken anew and the number built field by field:
 // what is handed on whole is copied by 16 bytes, which wait for the narrower stores of its parts.
 pub fn parse_length(text: &[u8], at: Place) -> LengthRead
@@ -109,7 +128,7 @@ pub fn parse_length(text: &[u8], at: Place) -> LengthRead
     ensures { λ r. ⌜ r ≡ parseLength (now (text .entry)) (at .0) ⌝ }
 {
     match numbers::parse_number(&text[0..], at) {
-        NumberRead::Refused(e) => LengthRead::Refused(e),
+        NumberRead::Refused(e) => LengthRead::Refused(anew(e)),
         NumberRead::Value(n, p) => {
             let i = p.0;
             let unit = unit_at(text, p);
