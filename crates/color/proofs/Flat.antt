@@ -173,7 +173,7 @@ digits-if n false x l e = absurd (omega arith)
 
 -- a packed colour is that colour again, where its channels are bytes
 module _ (c : Color) (r : c .red < 256) (g : c .green < 256) (b : c .blue < 256) (a : c .alpha < 256) where
-  unpacks : c ≡ unpacked (packed c)
+  pub unpacks : c ≡ unpacked (packed c)
   unfolding packed unpacked
   unpacks =
       let x : packed c % 256 ≡ c .red = omega arith in
@@ -252,7 +252,7 @@ module _ (s : List ℕ) (at : ℕ) where
       let d : c ≡ longColor s at 255 = e ∙ ap unpacked (y .1) ∙ sym (long-unpacks s at 255 (omega arith)) in
       rw d (sym (long-read k))
 
-ascii-all : (s : List ℕ) → ((j : ℕ) → j < length s → getD s j 0 < 128) → isAscii s ≡ true
+pub ascii-all : (s : List ℕ) → ((j : ℕ) → j < length s → getD s j 0 < 128) → isAscii s ≡ true
 unfolding isAscii
 ascii-all [] f = refl
 ascii-all (x ∷ xs) f = simp (lt-ltb x 128 (f 0 (omega arith)), ascii-all xs (λ j h. f (suc j) (omega arith)))
@@ -267,7 +267,7 @@ pub record Alone (s : List ℕ) (c : Color) : Type 0 where
 
 -- a text that is `#` and digits, as many as the try found
 module _ (s : List ℕ) (hash : getD s 0 0 ≡ 35) (some : 0 < length s) (all : scan isHexDigit s 1 ≡ length s) where
-  alone-ascii : isAscii s ≡ true
+  pub alone-ascii : isAscii s ≡ true
   alone-ascii = ascii-all s byte
     where
       byte : (j : ℕ) → j < length s → getD s j 0 < 128

@@ -28,8 +28,8 @@ use Rattle.numbers.specs.declared.Number.{Number}
 use Rattle.numbers.specs.declared.NumberRead.the-variants as N
 use Rattle.numbers.proofs.Steps.{skipped-read}
 use Rattle.numbers.proofs.Values.{Taken, number-known}
-use Rattle.color.specs.Color.{rgba, scaledChannel, closeBracket, parseAlpha, rgbPlain, afterNumber, rgbRest, parseRgb, isRgb, parseWord}
-use Rattle.color.specs.Quick.{rgbNumbers, orTold}
+use Rattle.color.specs.Color.{rgba, scaledChannel, closeBracket, parseAlpha, rgbPlain, afterNumber, rgbRest, parseRgb, parseHsl, isRgb, isHsl, namedColor, parseWord, parseColor}
+use Rattle.color.specs.Quick.{rgbNumbers, hslNumbers, orTold}
 use Rattle.color.specs.declared.Color.{Color}
 use Rattle.color.specs.declared.ColorRead.{ColorRead}
 use Rattle.color.specs.declared.ColorRead.the-variants as C
@@ -40,25 +40,40 @@ pub silent : (end : ℕ) (v x : ColorRead) → end ≡ 0 → cond (ltb 0 end) v 
 silent end v x e = rw e refl
 
 -- and one that tells, tells what is read
-tells : {A : Type 0} {v x : A} (end : ℕ) → 0 < end → cond (ltb 0 end) v x ≡ x → v ≡ x
+pub tells : {A : Type 0} {v x : A} (end : ℕ) → 0 < end → cond (ltb 0 end) v x ≡ x → v ≡ x
 tells end h e = simp (lt-ltb 0 end h) at e
 
--- `rgb` or `rgba` with its bracket
-opened : (w s : List ℕ) (i n : ℕ) → isWord w ≡ true → isRgb w ≡ true → startsWith (bracketed w) (drop i s) ≡ true → n ≡ length w + 1 → rgbNumbers s (i + n) ≡ parseWord s i
-unfolding parseWord parseRgb rgbNumbers bind
-opened w s i n h g e k =
+-- a word with its bracket
+opened : (w s : List ℕ) (i n : ℕ) → isWord w ≡ true → startsWith (bracketed w) (drop i s) ≡ true → n ≡ length w + 1
+    → cond (isRgb w) (rgbNumbers s (i + n)) (cond (isHsl w) (hslNumbers s (i + n)) (namedColor w (i + length w))) ≡ parseWord s i
+unfolding parseWord parseRgb parseHsl rgbNumbers hslNumbers bind
+opened w s i n h e k =
     let o = opens w (drop i s) h e in
     let z : i + n ≡ i + length w + 1 = omega arith in
-    simp (word-ends w s i o, word-bytes w s i o, word-opened w s i o, g, z)
+    simp (word-ends w s i o, word-bytes w s i o, word-opened w s i o, z)
 
 module _ (s : List ℕ) (i : ℕ) {r : Bool} (e : r ≡ true) where
   pub start-rgb : r ≡ startsWith (ascii "rgb(") (drop i s) → cond (ltb 0 (i + 4)) (rgbNumbers s (i + 4)) (parseWord s i) ≡ parseWord s i
   unfolding isRgb same lowerOf within
-  start-rgb q = simp (lt-ltb 0 (i + 4) (omega arith)) (opened (ascii "rgb") s i 4 refl refl (sym q ∙ e) refl)
+  start-rgb q = simp (lt-ltb 0 (i + 4) (omega arith)) (opened (ascii "rgb") s i 4 refl (sym q ∙ e) refl)
 
   pub start-rgba : r ≡ startsWith (ascii "rgba(") (drop i s) → cond (ltb 0 (i + 5)) (rgbNumbers s (i + 5)) (parseWord s i) ≡ parseWord s i
   unfolding isRgb same lowerOf within
-  start-rgba q = simp (lt-ltb 0 (i + 5) (omega arith)) (opened (ascii "rgba") s i 5 refl refl (sym q ∙ e) refl)
+  start-rgba q = simp (lt-ltb 0 (i + 5) (omega arith)) (opened (ascii "rgba") s i 5 refl (sym q ∙ e) refl)
+
+  pub start-hsl : r ≡ startsWith (ascii "hsl(") (drop i s) → cond (ltb 0 (i + 4)) (hslNumbers s (i + 4)) (parseWord s i) ≡ parseWord s i
+  unfolding isRgb isHsl same lowerOf within
+  start-hsl q = simp (lt-ltb 0 (i + 4) (omega arith)) (opened (ascii "hsl") s i 4 refl (sym q ∙ e) refl)
+
+  pub start-hsla : r ≡ startsWith (ascii "hsla(") (drop i s) → cond (ltb 0 (i + 5)) (hslNumbers s (i + 5)) (parseWord s i) ≡ parseWord s i
+  unfolding isRgb isHsl same lowerOf within
+  start-hsla q = simp (lt-ltb 0 (i + 5) (omega arith)) (opened (ascii "hsla") s i 5 refl (sym q ∙ e) refl)
+
+-- a number that is read stands before the end
+pub before-end : (s : List ℕ) (at : ℕ) {n : Number} {end : ℕ} → parseNumber s at ≡ N.Value n (place end) → leb (length s) at ≡ false
+before-end s at {n} {end} e =
+    let t : Taken s at n (place end) = number-known s at n (place end) e in
+    lt-leb (length s) at (omega (arith, t .least, t .inside))
 
 -- a number that is read, and the byte that stands directly after it
 record Stopped (s : List ℕ) (at stop : ℕ) (n : Number) (end : ℕ) : Type 0 where
@@ -73,10 +88,7 @@ module _ {s : List ℕ} {at stop : ℕ} {n : Number} {end : ℕ} (w : Stopped s 
   -- a number of a list passes a comma alone
   stopped-list : parseListNumber s at ≡ N.Value n (place (cond (eqb stop 44) (end + 1) end))
   unfolding parseListNumber afterItem bind parseListSeparator isCurrByteEq
-  stopped-list =
-      let t : Taken s at n (place end) = number-known s at n (place end) (w .read) in
-      let l : leb (length s) at ≡ false = lt-leb (length s) at (omega (arith, t .least, t .inside)) in
-      simp (l, w .read, stopped-here, w .byte, lt-ltb end (length s) (w .inside))
+  stopped-list = simp (before-end s at (w .read), w .read, stopped-here, w .byte, lt-ltb end (length s) (w .inside))
 
 -- what the quick reader of whole numbers answered, where it tells a number: its value is v, and it ends at `end`
 pub record Tells (s : List ℕ) (at stop : ℕ) (v : Float) (end : ℕ) : Type 0 where
@@ -110,7 +122,7 @@ module _ (s : List ℕ) (end : ℕ) (c : Color) (b : getD s end 0 ≡ 41) (l : e
   unfolding closeBracket bind consumeByte
   closes = simp (bracket-here, lt-leb (length s) end l, b)
 
-  alpha-none : parseAlpha s end c ≡ C.Value c (place (end + 1))
+  pub alpha-none : parseAlpha s end c ≡ C.Value c (place (end + 1))
   unfolding parseAlpha bind isCurrByteEq
   alpha-none = simp (bracket-here, lt-ltb end (length s) l, b, closes)
 
@@ -126,6 +138,12 @@ alpha-told s at c {n} {end} w =
     let f : eqb (getD s i 0) 41 ≡ false = ne-eqb (getD s i 0) 41 (t .passes .bytes i (omega arith) (omega (arith, t .least))) in
     simp (l, f, stopped-list v refl, closes s end (rgba (c .red) (c .green) (c .blue) (scaledChannel (n .value))) (w .byte) (w .inside))
 
+-- what the quick reader of numbers read, of the slice that was taken anew
+pub part-read : (s : List ℕ) (at end : ℕ) (v : Float) → 0 < end
+    → cond (ltb 0 end) (told (take (length s - 0) (drop 0 s)) at v end) (parseNumber (take (length s - 0) (drop 0 s)) at) ≡ parseNumber (take (length s - 0) (drop 0 s)) at
+    → parseNumber s at ≡ N.Value (numberOf s at v end) (place end)
+part-read s at end v some r = sym (tells end some (simp (rest-part s 0) at r))
+
 -- what the quick reader of alpha tells: t is what the test of the byte after its number answered
 pub alpha-quick : (s : List ℕ) (at red green blue end alpha : ℕ) (v : Float) (t : Bool) → (ltb 0 end && t) ≡ true → t ≡ isCurrByteEq s end 41 → alpha ≡ scaledChannel v
     → cond (ltb 0 end) (told (take (length s - 0) (drop 0 s)) at v end) (parseNumber (take (length s - 0) (drop 0 s)) at) ≡ parseNumber (take (length s - 0) (drop 0 s)) at
@@ -133,7 +151,7 @@ pub alpha-quick : (s : List ℕ) (at red green blue end alpha : ℕ) (v : Float)
 alpha-quick s at red green blue end alpha v t h q a r =
     let some : 0 < end = ltb-true 0 end (and-first (ltb 0 end) t h) in
     let there : t ≡ true = and-second (ltb 0 end) t h in
-    let w : Stopped s at 41 (numberOf s at v end) end = record { read = sym (tells end some (simp (rest-part s 0) at r)); byte = curr-byte s end 41 q there; inside = curr-inside s end 41 q there } in
+    let w : Stopped s at 41 (numberOf s at v end) end = record { read = part-read s at end v some r; byte = curr-byte s end 41 q there; inside = curr-inside s end 41 q there } in
     simp (lt-ltb 0 (end + 1) (omega arith), a) (sym (alpha-told s at (rgba red green blue 255) w))
 
 -- red and green with their commas: blue is read next
@@ -162,3 +180,12 @@ module _ (s : List ℕ) (at : ℕ) {x y : Float} {i j : ℕ} (r : Tells s at 44 
 pub told-color : (s : List ℕ) (i from end : ℕ) (c : Color) → cond (ltb 0 from) (rgbNumbers s from) (parseWord s i) ≡ parseWord s i → 0 < from
     → cond (ltb 0 end) (C.Value c (place end)) (rgbNumbers s from) ≡ rgbNumbers s from → 0 < end → C.Value c (place end) ≡ parseWord s i
 told-color s i from end c e h f l = tells end l f ∙ tells from h e
+
+-- what is told of a slice that is taken anew is told of the text
+pub alpha-anew : (s : List ℕ) (at : ℕ) (c : Color) (q : QuickColor)
+    → orTold q (parseAlpha (take (length s - 0) (drop 0 s)) at c) ≡ parseAlpha (take (length s - 0) (drop 0 s)) at c → orTold q (parseAlpha s at c) ≡ parseAlpha s at c
+alpha-anew s at c q h = rw (rest-part s 0) at h
+
+pub rgb-anew : (s : List ℕ) (at : ℕ) (q : QuickColor)
+    → orTold q (rgbNumbers (take (length s - 0) (drop 0 s)) at) ≡ rgbNumbers (take (length s - 0) (drop 0 s)) at → orTold q (rgbNumbers s at) ≡ rgbNumbers s at
+rgb-anew s at q h = rw (rest-part s 0) at h

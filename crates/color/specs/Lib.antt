@@ -5,4 +5,6 @@ pub mod Hsl
 pub mod Color
 pub mod Quick
 pub mod Answer
+pub mod Whole
+pub mod Packed
 pub mod Paper

@@ -5,7 +5,6 @@ ghost use lib.ListN.{length};
 ghost use Rattle.color.specs.Hsl.{hueToRgb, hslToRgb, hslColor};
 ghost use Rattle.color.specs.Color.{afterNumber, closeBracket, parseAlpha, rgbMarked, rgbPlain, rgbRest, parseRgb, hslRest, parseHsl, isRgb, isHsl, namedColor, parseWord, parseColor, parseColorText};
 ghost use Rattle.color.specs.Answer.{fromStr};
-use names::Named;
 use numbers::NumberRead;
 use stream::Admission;
 use stream::Consumed;
@@ -14,11 +13,18 @@ use stream::Place;
 use stream::Refusal;
 
 mod hex;
+mod packed;
 mod rgb;
+mod share;
+mod texts;
 
 pub use hex::NO_COLOR;
 pub use hex::hex_alone;
 pub use hex::unpacked;
+pub use packed::packed_color;
+pub use packed::packed_from_str;
+pub use packed::packed_refusal;
+pub use texts::whole;
 
 pub struct Color {
     pub red: u8,
@@ -52,12 +58,17 @@ pub enum ColorAnswer {
 pub fn from_str(text: &[u8]) -> ColorAnswer
     ensures { λ r. ⌜ r ≡ fromStr (now (text .entry)) ⌝ }
 {
-    if stream::is_curr_byte_eq(text, Place(0), b'#') {
-        let v = hex_alone(&text[0..]);
-        if v < NO_COLOR {
-            return ColorAnswer::Value(hex::unpacked(v));
-        }
+    let v = whole(&text[0..]);
+    if v < NO_COLOR {
+        return ColorAnswer::Value(hex::unpacked(v));
     }
+    from_any(text)
+}
+
+// A colour as a whole text, by what holds of any text; what is told at once was asked before.
+fn from_any(text: &[u8]) -> ColorAnswer
+    ensures { λ r. ⌜ r ≡ fromStr (now (text .entry)) ⌝ }
+{
     match stream::admit_text(text) {
         Admission::Refused(refusal) => ColorAnswer::Refused(refusal),
         Admission::Admitted => match parse_color_text(text) {
@@ -101,7 +112,7 @@ pub fn parse_color(text: &[u8], at: Place) -> ColorRead
     if text[i] == b'r' {
         let from = rgb::rgb_start(text, start);
         if 0 < from {
-            let q = rgb::quick_rgb(text, from);
+            let q = rgb::quick_rgb(&text[0..], from);
             let end = q.end;
             if 0 < end {
                 return ColorRead::Value(
@@ -153,27 +164,11 @@ fn is_hsl(word: &[u8]) -> bool
 fn named_color(word: &[u8], end: Place) -> ColorRead
     ensures { λ r. ⌜ r ≡ namedColor (now (word .entry)) (end .0) ⌝ }
 {
-    match names::from_str(word) {
-        Named::Keyword(c) => ColorRead::Value(
-            Color {
-                red: c.red,
-                green: c.green,
-                blue: c.blue,
-                alpha: 255,
-            },
-            end,
-        ),
-        Named::Transparent => ColorRead::Value(
-            Color {
-                red: 0,
-                green: 0,
-                blue: 0,
-                alpha: 0,
-            },
-            end,
-        ),
-        Named::Unknown => ColorRead::Refused(stream::invalid_value(end)),
+    let v = names::from_str(word);
+    if v < NO_COLOR {
+        return ColorRead::Value(hex::unpacked(v), end);
     }
+    ColorRead::Refused(stream::invalid_value(end))
 }
 
 // What follows `rgb` or `rgba`. The first number is no number of a list.

@@ -9,7 +9,7 @@ ghost use Rattle.color.specs.Quick.{rgbNumbers, orTold};
 use crate::QuickColor;
 use stream::Place;
 
-fn untold() -> QuickColor
+pub fn untold() -> QuickColor
     ensures { λ r. ⌜ r .end ≡ 0 ⌝ }
 {
     QuickColor {
@@ -62,7 +62,7 @@ pub fn quick_rgb(text: &[u8], at: usize) -> QuickColor
             let c = numbers::quick_whole(text, j + 1, b',');
             let k = c.end;
             if 0 < k {
-                return quick_alpha(text, k + 1, red, green, floats::channel(c.value));
+                return quick_alpha(&text[0..], k + 1, red, green, floats::channel(c.value));
             }
         }
     }
@@ -71,7 +71,7 @@ pub fn quick_rgb(text: &[u8], at: usize) -> QuickColor
 
 // The fourth number and the bracket. The slice is taken anew: handed on whole it is copied by 16 bytes,
 // which wait for the stores of its two halves.
-fn quick_alpha(text: &[u8], at: usize, red: u8, green: u8, blue: u8) -> QuickColor
+pub fn quick_alpha(text: &[u8], at: usize, red: u8, green: u8, blue: u8) -> QuickColor
     requires { ⌜ length (now text) ≤ 4096 ⌝ }
     ensures { λ r. ⌜ orTold r (parseAlpha (now (text .entry)) at (rgba red green blue 255)) ≡ parseAlpha (now (text .entry)) at (rgba red green blue 255) ⌝ }
 {

@@ -38,6 +38,7 @@ use Rattle.length.specs.declared.QuickLength.{QuickLength}
 use Rattle.length.proofs.Values.{length-known}
 use Rattle.angle.specs.Angles.{parseUnit}
 use Rattle.angle.specs.declared.AngleUnit.the-variants as W
+use Rattle.color.proofs.Wholes.{or-first, or-second}
 use Rattle.filter_functions.specs.Filters.{opened, argumentOf, closeBracket, parseNext, parseStep}
 use Rattle.filter_functions.specs.Moves.{thenFilter}
 use Rattle.filter_functions.specs.Quick.{orTold, isOpened, valueRead, closing}
@@ -80,14 +81,6 @@ opened-leads (N.Plain P.Saturate) h = refl
 opened-leads (N.Plain P.Sepia) h = refl
 opened-leads N.Url h = refl
 opened-leads N.Unknown h = absurd (omega arith)
-
-or-first : (t u : Bool) → (t || u) ≡ false → t ≡ false
-or-first true u e = e
-or-first false u e = refl
-
-or-second : (t u : Bool) → (t || u) ≡ false → u ≡ false
-or-second true u e = let z : _≡_ {A = ℕ} 0 1 = cc in absurd (omega arith)
-or-second false u e = e
 
 -- a word in two parts: the second stands after the first
 record Parted (u v l : List ℕ) : Type 0 where

@@ -1,18 +1,18 @@
 -- What is proved of the standard's table, once, by tests that are computed at each entry.
-use Prim.Native.Nat.{ℕ, _+_, _<_}
+use Prim.Native.Nat.{ℕ, _+_, _≤_, _<_}
 use mathlib.Core.Bool.{Bool, true, false, _&&_, _||_}
 use mathlib.Core.List.{List, [], _∷_}
 use mathlib.Core.Path.{_≡_, refl, ap}
 use native.Mathlib.Omega.{arith}
 use borrow.Author.Tests.{eqb-true}
-use lib.Dec.{T, eqb, ltb}
+use lib.Dec.{T, eqb, ltb, leb, leb→le}
 use lib.ListN.{length, getD}
 use Rattle.stream.specs.Bytes.{isLower, within}
 use Rattle.stream.specs.Words.{same}
 use Rattle.stream.proofs.Ranges.{across}
 use Rattle.names.specs.Keywords.{Keyword, keywords}
-use Rattle.names.specs.Look.{channels, lookUp}
-use Rattle.names.specs.Search.{nth}
+use Rattle.names.specs.Look.{channels, lookUp, packedNamed}
+use Rattle.names.specs.Search.{nth, allSmall}
 use Rattle.names.specs.declared.Rgb.{Rgb}
 use Rattle.names.specs.declared.Named.{Named}
 use Rattle.names.specs.declared.Named.the-variants as N
@@ -62,14 +62,15 @@ pub table-look : (k : ℕ) → k < 147 → lookUp keywords (nth k .name) ≡ N.K
 unfolding keywords lookUp same
 table-look k h = is-colour (nth k) _ (across (λ j. isColour (nth j) (lookUp keywords (nth j .name))) 0 147 tt k (omega arith) (omega arith))
 
--- small letters alone
-unfoldable pub allLower : List ℕ → Bool
-allLower [] = true
-allLower (x ∷ xs) = isLower x && allLower xs
+-- the names are small letters alone
+pub table-lower : (k : ℕ) → k < 147 → T (allSmall (nth k .name))
+unfolding keywords within allSmall
+table-lower k h = across (λ j. allSmall (nth j .name)) 0 147 tt k (omega arith) (omega arith)
 
-pub table-lower : (k : ℕ) → k < 147 → T (allLower (nth k .name))
-unfolding keywords within allLower
-table-lower k h = across (λ j. allLower (nth j .name)) 0 147 tt k (omega arith) (omega arith)
+-- no entry's colour is past the number for none
+pub table-packed : (k : ℕ) → k < 147 → packedNamed (N.Keyword (channels (nth k))) ≤ 4294967296
+unfolding keywords packedNamed
+table-packed k h = leb→le _ _ (across (λ j. leb (packedNamed (N.Keyword (channels (nth j)))) 4294967296) 0 147 tt k (omega arith) (omega arith))
 
 -- and at least one of them
 pub table-letter : (k : ℕ) → k < 147 → true ≡ isLower (getD (nth k .name) 0 0)

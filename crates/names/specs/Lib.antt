@@ -1,3 +1,4 @@
 pub mod Keywords
 pub mod Look
 pub mod Search
+pub mod Numbered

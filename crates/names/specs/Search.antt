@@ -1,8 +1,10 @@
 -- What the functions of the search say to each other.
 use Prim.Native.Nat.{ℕ, _+_, _*_, _≤_, _<_}
-use mathlib.Core.List.{List}
+use mathlib.Core.Bool.{Bool, true, _&&_}
+use mathlib.Core.List.{List, [], _∷_}
 use mathlib.Core.Path.{_≡_}
 use lib.ListN.{length, getD}
+use Rattle.stream.specs.Bytes.{isLower}
 use Rattle.stream.specs.Words.{part, lowered}
 use Rattle.names.specs.Keywords.{Keyword, entry, keywords}
 use Rattle.names.specs.Look.{channels}
@@ -41,3 +43,8 @@ pub record Searching (names starts colours w : List ℕ) (k count : ℕ) : Type 
 pub record Begins (w : List ℕ) (a b : ℕ) : Type 0 where
   pub least : a ≤ getD (lowered w) 0 0
   pub most : getD (lowered w) 0 0 ≤ b
+
+-- small letters alone
+unfoldable pub allSmall : List ℕ → Bool
+allSmall [] = true
+allSmall (x ∷ xs) = isLower x && allSmall xs

@@ -4,8 +4,10 @@ ghost use mathlib.Core.List.{[]};
 ghost use Prim.Native.Nat.{_+_, _-_, _≤_, _<_};
 ghost use lib.ListN.{length, getD};
 ghost use Rattle.stream.specs.Words.{same, lowered};
-ghost use Rattle.names.specs.Look.{lookUp, namedOf};
-ghost use Rattle.names.specs.Search.{spelling, Begins, Searching};
+ghost use Rattle.names.specs.Look.{lookUp, namedOf, packedNamed};
+ghost use Rattle.names.specs.Search.{spelling, Begins, Searching, allSmall};
+
+mod letters;
 
 pub struct Rgb {
     pub red: u8,
@@ -19,6 +21,9 @@ pub enum Named {
     Transparent,
     Unknown,
 }
+
+// No packed colour: the first number after them.
+pub const NO_COLOR: u64 = 0x1_0000_0000;
 
 // The table: each keyword's bytes, one after the other, in strictly rising order; where each starts, and
 // the end of the last; red, green and blue of each. It is cut into bands of first letters.
@@ -248,8 +253,8 @@ fn search_t_to_z(word: &[u8]) -> Named
     search_band(&NAMES_T_TO_Z, &STARTS_T_TO_Z, &CHANNELS_T_TO_Z, word)
 }
 
-// The colour that a word names, letter case ignored.
-pub fn from_str(word: &[u8]) -> Named
+// The colour that a word names, letter case ignored, by the table.
+fn search(word: &[u8]) -> Named
     ensures { λ r. ⌜ r ≡ namedOf (now (word .entry)) ⌝ }
 {
     match stream::to_ascii_lowercase(stream::byte_at(word, 0)) {
@@ -264,5 +269,40 @@ pub fn from_str(word: &[u8]) -> Named
         b'q'..=b's' => search_q_to_s(word),
         b't'..=b'z' => search_t_to_z(word),
         _ => Named::Unknown,
+    }
+}
+
+// Whether a word has small letters alone.
+fn is_small(word: &[u8]) -> bool
+    ensures { λ r. ⌜ r ≡ allSmall (now (word .entry)) ⌝ }
+{
+    let mut i: usize = 0;
+    while i < word.len() {
+        if (word[i] < b'a') | (b'z' < word[i]) {
+            return false;
+        }
+        i += 1;
+    }
+    true
+}
+
+// The colour that a word names, letter case ignored, as one number: red, then green, blue and alpha.
+// Most words are names in small letters; the table is asked for one that has other bytes.
+pub fn from_str(word: &[u8]) -> u64
+    ensures { λ r. ⌜ r ≡ packedNamed (namedOf (now (word .entry))) ⌝ }
+{
+    let v = letters::look_up(&word[0..]);
+    if v < NO_COLOR {
+        return v;
+    }
+    if is_small(word) {
+        return NO_COLOR;
+    }
+    match search(word) {
+        Named::Keyword(c) => {
+            (c.red as u64) + ((c.green as u64) * 256 + ((c.blue as u64) * 65536 + 0xff00_0000))
+        }
+        Named::Transparent => 0,
+        Named::Unknown => NO_COLOR,
     }
 }

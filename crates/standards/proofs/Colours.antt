@@ -18,6 +18,7 @@ use Rattle.stream.specs.declared.Admission.the-variants.{Admitted}
 use Rattle.stream.proofs.Ahead.{scan-seam}
 use Rattle.stream.proofs.Octets.{and-first, and-second}
 use Rattle.stream.proofs.Ranges.{either, within-ge, within-le}
+use Rattle.color.proofs.Wholes.{Wordly, word-byte}
 use Rattle.color.specs.Answer.{fromStr}
 use Rattle.color.specs.Color.{isRgb, isHsl, parseRgb, parseHsl, namedColor, parseWord, parseColor, parseColorText}
 use Rattle.color.specs.Hex.{parseHex}
@@ -47,22 +48,6 @@ after-blanks l s =
 pub hash-first : (s : List ℕ) → parseColor (35 ∷ s) 0 ≡ parseHex (35 ∷ s) 1
 unfolding parseColor bind scan run
 hash-first s = simp (lt-leb (suc (length s)) 0 (omega arith))
-
--- a byte of a word is no space, no `#`, and ASCII
-record Wordly (b : ℕ) : Type 0 where
-  low : 45 ≤ b
-  high : b < 123
-
-word-byte : (b : ℕ) → isAsciiIdent b ≡ true → Wordly b
-word-byte b e = go (isDigit b) (isUpper b) (isLower b) (eqb b 45) (eqb b 95) refl refl refl refl refl e
-  where
-    go : (t u v x y : Bool) → isDigit b ≡ t → isUpper b ≡ u → isLower b ≡ v → eqb b 45 ≡ x → eqb b 95 ≡ y → (t || (u || (v || (x || y)))) ≡ true → Wordly b
-    go true u v x y p q r m n e = record { low = omega (arith, within-ge 48 57 b (sym p)); high = omega (arith, within-le 48 57 b (sym p)) }
-    go false true v x y p q r m n e = record { low = omega (arith, within-ge 65 90 b (sym q)); high = omega (arith, within-le 65 90 b (sym q)) }
-    go false false true x y p q r m n e = record { low = omega (arith, within-ge 97 122 b (sym r)); high = omega (arith, within-le 97 122 b (sym r)) }
-    go false false false true y p q r m n e = let f = eqb-true b 45 m in record { low = omega arith; high = omega arith }
-    go false false false false true p q r m n e = let f = eqb-true b 95 n in record { low = omega arith; high = omega arith }
-    go false false false false false p q r m n e = let z : _≡_ {A = ℕ} 0 1 = cc in absurd (omega arith)
 
 pub word-ascii : (w : List ℕ) → every isAsciiIdent w ≡ true → Ascii w
 word-ascii [] e = refl

@@ -1,7 +1,4 @@
-use Rattle.stream.proofs.Edges.{admitted, edges}
-use Rattle.color.proofs.Flat.{alone-is, whole-alone}
-use Rattle.color.proofs.Steps.{answer-refused, coloured}
-use Rattle.color.specs.Answer.{fromStr}
+use Rattle.color.proofs.Packing.{whole-told}
 use borrow.Author.Needs.{needs}
 use Rattle.color.proofs.from_str.Statement.{statement}
 use Rattle.color.proofs.from_str.Tie as tie
@@ -10,20 +7,11 @@ pub from-str-spec : {M : Type 1} → statement M
 from-str-spec =
     tie.close
     (tie.spec
-    (λ c κs. search needs)
     (λ c. search needs)
     (λ c. search needs)
     (λ c. search needs)
     (λ c κs. search needs)
     (λ c κs. search needs)
-    (λ c. search (alone-is, whole-alone, needs))
+    (λ c. search (whole-told, needs))
     (λ c κs. search needs)
-    (λ c. search needs)
-    (λ c. search needs)
-    (λ c κs. search (admitted, needs))
-    (λ c. search needs)
-    (λ c. search needs)
-    (λ c κs. search (admitted, needs))
-    (λ c. unfold fromStr in search (edges, needs) depth 20)
-    (λ c. unfold fromStr in search (edges, coloured, needs) depth 20)
-    (λ c. unfold fromStr in search (edges, coloured, answer-refused, needs) depth 20))
+    (λ c. search needs))

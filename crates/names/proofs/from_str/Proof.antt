@@ -1,4 +1,5 @@
-use Rattle.names.proofs.Naming.{unlettered, beginning, past}
+use Rattle.names.proofs.Naming.{packings}
+use Rattle.names.proofs.Small.{written}
 use borrow.Author.Needs.{needs}
 use Rattle.names.proofs.from_str.Statement.{statement}
 use Rattle.names.proofs.from_str.Tie as tie
@@ -7,18 +8,14 @@ pub from-str-spec : {M : Type 1} → statement M
 from-str-spec =
     tie.close
     (tie.spec
+    (λ c. search needs)
+    (λ c. search needs)
+    (λ c. search needs)
     (λ c κs. search needs)
+    (λ c. search (written, needs))
     (λ c κs. search needs)
-    (λ c κs. search (beginning, needs))
-    (λ c κs. search (beginning, needs))
-    (λ c κs. search (beginning, needs))
-    (λ c κs. search (beginning, needs))
-    (λ c κs. search (beginning, past (c .before .before .before .match .rest .0 .0 .1), past (c .before .before .before .match .rest .0 .1), needs))
-    (λ c κs. search (beginning, needs))
-    (λ c κs. search (beginning, past (c .before .before .before .before .before .match .rest .1), needs))
-    (λ c κs. search (beginning, needs))
-    (λ c κs. search (beginning, needs))
-    (λ c κs. search (beginning, needs))
+    (λ c. search (written, needs))
+    (λ c κs. search needs)
     (λ c. search needs)
     (λ c. search needs)
     (λ c. search needs)
@@ -29,5 +26,7 @@ from-str-spec =
     (λ c. search needs)
     (λ c. search needs)
     (λ c. search needs)
-    (λ c. search (unlettered, needs))
-    (λ c. search (unlettered, needs)))
+    (λ c. search needs)
+    (λ c. search (packings, needs))
+    (λ c. search (packings, needs))
+    (λ c. search (packings, needs)))

@@ -1,0 +1,28 @@
+use borrow.Author.Tests.{ne-eqb}
+use Rattle.names.specs.Keywords.{keywords}
+use Rattle.names.specs.Look.{packedNamed}
+use Rattle.names.specs.Numbered.{four, head, tail, found, ofLength, ofLong}
+use Rattle.names.proofs.Arms.{long-at, long-both, long-none}
+use borrow.Author.Needs.{needs}
+use Rattle.names.proofs.letters.of_fourteen.Statement.{statement}
+use Rattle.names.proofs.letters.of_fourteen.Tie as tie
+
+pub of-fourteen-spec : {M : Type 1} → statement M
+unfolding ofLong ofLength found keywords head tail four packedNamed
+of-fourteen-spec =
+    tie.close
+    (tie.spec
+    (λ c κs. search needs)
+    (λ c κs. search needs)
+    (λ c κs. search needs)
+    (λ c κs. search needs)
+    (λ c κs. search needs)
+    (λ c. search (long-at, needs))
+    (λ c. search (long-at, needs))
+    (λ c. search (long-at, needs))
+    (λ c. search (long-both, needs))
+    (λ c. search (long-both, needs))
+    (λ c. simp (c .before .match .keys4, ne-eqb _ _ (c .match2 .rest .1), ne-eqb _ _ (c .match2 .rest .0 .1)))
+    (λ c. search (long-at, needs))
+    (λ c. search (long-at, needs))
+    (λ c. long-none 14 _ (c .before .args .l) (c .match .rest) tt))
