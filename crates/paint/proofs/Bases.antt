@@ -85,11 +85,11 @@ module _ (P : ℕ → Type 0) (t : List ℕ) (start : P 0)
 pub parse-paint-inside : (t : List ℕ) {e : Fault} {b : Place} → parsePaint t ≡ R.Refused e b → b .0 ≤ length t
 parse-paint-inside t q = based (paint-based (λ n. n ≤ length t) t (omega arith) (λ l p e h. omega arith)) q
 
-or-either : {C : Type 0} (t u : Bool) → (t ≡ true → C) → (u ≡ true → C) → (t || u) ≡ true → C
+pub or-either : {C : Type 0} (t u : Bool) → (t ≡ true → C) → (u ≡ true → C) → (t || u) ≡ true → C
 or-either true u f g e = f refl
 or-either false u f g e = g e
 
-space-ascii : (x : ℕ) → isSpace x ≡ true → x < 128
+pub space-ascii : (x : ℕ) → isSpace x ≡ true → x < 128
 space-ascii x =
     or-either (eqb x 32) _ (byte 32 (omega arith))
     (or-either (eqb x 9) _ (byte 9 (omega arith)) (or-either (eqb x 10) _ (byte 10 (omega arith)) (byte 13 (omega arith))))

@@ -21,6 +21,16 @@ linkStart P.ContextFill = 0
 linkStart P.ContextStroke = 0
 linkStart (P.Color c) = 0
 
+-- how long it is, 0 for none
+unfoldable pub linkLen : Paint → ℕ
+linkLen (P.FuncIRI link f) = link .len
+linkLen P.None = 0
+linkLen P.Inherit = 0
+linkLen P.CurrentColor = 0
+linkLen P.ContextFill = 0
+linkLen P.ContextStroke = 0
+linkLen (P.Color c) = 0
+
 -- "A link's place counts from the lent text, in a paint too"
 unfoldable pub movePaint : ℕ → Paint → Paint
 movePaint n (P.FuncIRI link f) = P.FuncIRI (movePart n link) f

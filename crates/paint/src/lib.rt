@@ -18,6 +18,10 @@ use stream::Part;
 use stream::Place;
 use stream::Refusal;
 
+mod flat;
+
+pub use flat::packed_from_str;
+
 // What is painted where a link leads nowhere; Absent: none was written.
 pub enum PaintFallback {
     Absent,

@@ -1,6 +1,6 @@
 use borrow.Author.Needs.{needs}
 use Rattle.color.proofs.Flat.{whole-alone}
-use Rattle.paint.proofs.Flat.{none-alone, hex-paint}
+use Rattle.paint.proofs.Firsts.{none-alone, hex-paint}
 use Rattle.paint.proofs.from_str.Statement.{statement}
 use Rattle.paint.proofs.from_str.Tie as tie
 

@@ -1,7 +1,7 @@
 use borrow.Author.Needs.{needs}
 use Rattle.stream.proofs.Flows.{flow}
 use Rattle.paint.specs.Reading.{parsePaint}
-use Rattle.paint.proofs.Flat.{linked-first}
+use Rattle.paint.proofs.Firsts.{linked-first}
 use Rattle.paint.proofs.parse_paint.Statement.{statement}
 use Rattle.paint.proofs.parse_paint.Tie as tie
 

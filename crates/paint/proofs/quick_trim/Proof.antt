@@ -1,5 +1,5 @@
 use borrow.Author.Needs.{needs}
-use Rattle.paint.proofs.Flat.{inked-part}
+use Rattle.paint.proofs.Firsts.{inked-part}
 use Rattle.paint.proofs.quick_trim.Statement.{statement}
 use Rattle.paint.proofs.quick_trim.Tie as tie
 

@@ -70,7 +70,7 @@ none-text = refl
 pub none-alone : (s : List ℕ) {r : Bool} → r ≡ same s (ascii "none") → r ≡ true → A.Value P.None ≡ fromStr s
 none-alone s q e = rw (same-eq s (ascii "none") (sym q ∙ e)) none-text
 
-plain : (b : ℕ) → true ≡ within 33 126 b → within 33 127 b ≡ true
+pub plain : (b : ℕ) → true ≡ within 33 126 b → within 33 127 b ≡ true
 plain b e = sym (within-yes 33 127 b (within-ge 33 126 b e) (omega (arith, within-le 33 126 b e)))
 
 -- a text whose ends are visible ASCII characters is not trimmed

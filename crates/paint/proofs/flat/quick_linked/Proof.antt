@@ -1,0 +1,28 @@
+use Rattle.paint.proofs.Links.{begun, fitting, bare-told}
+use borrow.Author.Needs.{needs}
+use Rattle.paint.proofs.flat.quick_linked.Statement.{statement}
+use Rattle.paint.proofs.flat.quick_linked.Tie as tie
+
+pub quick-linked-spec : {M : Type 1} → statement M
+quick-linked-spec =
+    tie.close
+    (tie.spec
+    (λ c. search needs)
+    (λ c κs. search needs)
+    (λ c κs. search needs)
+    (λ c κs. search needs)
+    (λ c κs. search needs)
+    (λ c. search needs)
+    (λ c. search needs)
+    (λ c. search (fitting, needs))
+    (λ c. search (fitting, needs))
+    (λ c. search (fitting, needs))
+    (λ c. search (fitting, needs))
+    (λ c. search (fitting, needs))
+    (λ c κs. search (fitting, needs))
+    (λ c. search (bare-told, needs))
+    (λ c. search needs)
+    (λ c κs. search (begun, needs))
+    (λ c. search needs)
+    (λ c. search needs)
+    (λ c. search needs))
