@@ -135,6 +135,24 @@ struct homeludaf_answer {
 
 enum { HOMELUDAF_ENTRIES = 24 };                       /* the numbers of an answer */
 
+/* A colour's or a paint's answer as one number. Its kind is 0 for a refusal, else an enum homeludaf_paint_kind: a colour's answer has
+ * HOMELUDAF_PAINT_COLOR or 0. A refusal has code, position, place, found and wanted; a colour, or a paint that is one, red to alpha;
+ * a link its part and its fallback, and red to alpha where that is a colour. The layout is that of specs/Packed.antt in color and paint. */
+#define HOMELUDAF_PACKED_BITS(v, from, count) (((uint64_t)(v) >> (from)) & ((UINT64_C(1) << (count)) - 1))
+#define HOMELUDAF_PACKED_KIND(v) HOMELUDAF_PACKED_BITS(v, 0, 3)
+#define HOMELUDAF_PACKED_CODE(v) HOMELUDAF_PACKED_BITS(v, 3, 4)
+#define HOMELUDAF_PACKED_POSITION(v) HOMELUDAF_PACKED_BITS(v, 7, 13)
+#define HOMELUDAF_PACKED_PLACE(v) HOMELUDAF_PACKED_BITS(v, 20, 13)
+#define HOMELUDAF_PACKED_FOUND(v) HOMELUDAF_PACKED_BITS(v, 33, 8)
+#define HOMELUDAF_PACKED_WANTED(v) HOMELUDAF_PACKED_BITS(v, 49, 8)
+#define HOMELUDAF_PACKED_LINK_START(v) HOMELUDAF_PACKED_BITS(v, 3, 13)
+#define HOMELUDAF_PACKED_LINK_LENGTH(v) HOMELUDAF_PACKED_BITS(v, 16, 13)
+#define HOMELUDAF_PACKED_FALLBACK(v) HOMELUDAF_PACKED_BITS(v, 29, 2)
+#define HOMELUDAF_PACKED_RED(v) HOMELUDAF_PACKED_BITS(v, 31, 8)
+#define HOMELUDAF_PACKED_GREEN(v) HOMELUDAF_PACKED_BITS(v, 39, 8)
+#define HOMELUDAF_PACKED_BLUE(v) HOMELUDAF_PACKED_BITS(v, 47, 8)
+#define HOMELUDAF_PACKED_ALPHA(v) HOMELUDAF_PACKED_BITS(v, 55, 8)
+
 /* what a call that hands out many answers tells of them */
 struct homeludaf_told {
     uint64_t count;                                    /* how many answers were written */
@@ -157,6 +175,10 @@ void homeludaf_func_iri(const uint8_t *text, size_t length, struct homeludaf_ans
 void homeludaf_paint(const uint8_t *text, size_t length, struct homeludaf_answer *answer);
 void homeludaf_inherited(const uint8_t *own, size_t own_length, const uint8_t *parent, size_t parent_length, struct homeludaf_answer *answer);
 void homeludaf_filter_next(const uint8_t *text, size_t length, size_t place, struct homeludaf_answer *answer);
+
+/* A colour or a paint as one number: the answer of homeludaf_color or of homeludaf_paint, with no memory to fill. */
+uint64_t homeludaf_color_packed(const uint8_t *text, size_t length);
+uint64_t homeludaf_paint_packed(const uint8_t *text, size_t length);
 
 /* Many steps of a list at once, with one test of the text: the answers of the single steps, each from the list place of the one before it, up to and with the
  * first whose state is not HOMELUDAF_STATE_VALUE, as many as fit. `entries` counts the numbers lent, HOMELUDAF_ENTRIES for each answer; those behind the last

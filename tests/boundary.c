@@ -52,6 +52,33 @@ static void many(const char *what, next_call *next, all_call *all, const char *t
     expect(what, told.count == n && told.list_place == place && memcmp(got, wanted, sizeof got) == 0);
 }
 
+/* The answer as one number is the record's, field by field. Without a link the fields of a link are 0, and so on. */
+static void packed(const char *what, uint64_t v, const struct homeludaf_answer *a, uint64_t kind, const struct homeludaf_rgba *color)
+{
+    int same = HOMELUDAF_PACKED_KIND(v) == kind;
+    if (kind == 0)
+        same = same && HOMELUDAF_PACKED_CODE(v) == a->code && HOMELUDAF_PACKED_POSITION(v) == a->position && HOMELUDAF_PACKED_PLACE(v) == a->place
+               && HOMELUDAF_PACKED_FOUND(v) == a->found && HOMELUDAF_PACKED_WANTED(v) == a->wanted && v >> 57 == 0;
+    else
+        same = same && HOMELUDAF_PACKED_RED(v) == color->red && HOMELUDAF_PACKED_GREEN(v) == color->green
+               && HOMELUDAF_PACKED_BLUE(v) == color->blue && HOMELUDAF_PACKED_ALPHA(v) == color->alpha && v >> 63 == 0;
+    expect(what, same);
+}
+
+static void both_packed(const char *text, size_t length)
+{
+    struct homeludaf_answer a;
+    uint64_t v = homeludaf_color_packed((const uint8_t *)text, length);
+    homeludaf_color((const uint8_t *)text, length, &a);
+    packed("color_packed", v, &a, a.code ? 0 : HOMELUDAF_PAINT_COLOR, &a.result.color);
+    v = homeludaf_paint_packed((const uint8_t *)text, length);
+    homeludaf_paint((const uint8_t *)text, length, &a);
+    packed("paint_packed", v, &a, a.result.paint.kind, &a.result.paint.color);
+    if (a.code == 0)
+        expect("paint_packed, link", HOMELUDAF_PACKED_LINK_START(v) == a.result.paint.link.start
+                                         && HOMELUDAF_PACKED_LINK_LENGTH(v) == a.result.paint.link.length && HOMELUDAF_PACKED_FALLBACK(v) == a.result.paint.fallback);
+}
+
 #define TEXT(s) (const uint8_t *)(s), sizeof(s) - 1
 #define TEXT_OF(s) (s), sizeof(s) - 1
 
@@ -105,6 +132,29 @@ int main(void)
     homeludaf_inherited(TEXT(" inherit "), TEXT("  red"), &a);
     show("inherited", &a);
     expect("inherited", a.result.inherited.whose == HOMELUDAF_WHOSE_PARENT && a.result.inherited.part.start == 2 && a.result.inherited.part.length == 3);
+
+    uint64_t v = homeludaf_paint_packed(TEXT("  url(#g) #0102037f "));
+    printf("paint_packed: %llx\n", (unsigned long long)v);
+    expect("paint_packed, by hand", v == (7 | 7 << 3 | 1 << 16 | UINT64_C(3) << 29 | UINT64_C(0x7f030201) << 31));
+    v = homeludaf_color_packed(TEXT("rgb[1"));
+    printf("color_packed: %llx\n", (unsigned long long)v);
+    expect("color_packed, by hand", v == (7 << 3 | 4 << 7 | (uint64_t)'[' << 33 | (uint64_t)'(' << 49));
+    const struct { const char *text; size_t length; } paints[] = {
+        { TEXT_OF("") }, { TEXT_OF(" ") }, { TEXT_OF("#") }, { TEXT_OF("#12") }, { TEXT_OF("#123") }, { TEXT_OF("#1234567") }, { TEXT_OF(" #11223344\t") },
+        { TEXT_OF("none") }, { TEXT_OF("inherit ") }, { TEXT_OF("currentColor") }, { TEXT_OF("context-fill") }, { TEXT_OF("\ncontext-stroke") }, { TEXT_OF("Red") },
+        { TEXT_OF("transparent") }, { TEXT_OF("redd") }, { TEXT_OF("red\xc2\xa0") }, { TEXT_OF("red\xff") }, { TEXT_OF("rgb(1,2,3)") }, { TEXT_OF("rgb(1,2,x)") },
+        { TEXT_OF("rgb(1e400,2,3)") }, { TEXT_OF("rgb(10%, 20%, 30%, .5)") }, { TEXT_OF("hsl(120, 100%, 50%)") }, { TEXT_OF("hsla(1,2%,3%,.4) x") },
+        { TEXT_OF("url(#a)") }, { TEXT_OF("url(#a) ") }, { TEXT_OF("url(#a)none") }, { TEXT_OF("url(#a) none") }, { TEXT_OF("url(#a) currentColor") },
+        { TEXT_OF(" url('#b' ) rgb(1,2,3)") }, { TEXT_OF("url(#\xc3\xa9) teal") }, { TEXT_OF("url(#a) nothing") }, { TEXT_OF("url(#a) rgb(1,2") }, { TEXT_OF("url(#a") },
+    };
+    for (size_t i = 0; i < sizeof paints / sizeof paints[0]; i++)
+        for (size_t n = 0; n <= paints[i].length; n++)
+            both_packed(paints[i].text, n);
+    static char wide[4098];
+    memset(wide, ' ', sizeof wide);
+    memcpy(wide + 4089, "url(#a)", 7);
+    for (size_t n = 4090; n <= 4098; n++)
+        both_packed(wide, n);
 
     const char lengths[] = "10 20px, 5%";
     size_t place = 0;

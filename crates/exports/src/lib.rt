@@ -4,10 +4,12 @@ ghost use Rattle.exports.specs.Many.{fitting, filled, toldOf, filterAt, 
 ghost use Rattle.exports.specs.Records.{colorRecord, lengthRecord, lengthStepRecord, angleRecord, linkRecord, paintRecord, inheritedRecord, filterRecord};
 ghost use Rattle.angle.specs.Angles as angles;
 ghost use Rattle.color.specs.Answer as colors;
+ghost use Rattle.color.specs.Packed as colored;
 ghost use Rattle.filter_functions.specs.Filters.{nextFilter};
 ghost use Rattle.funciri.specs.Answers.{iriFromStr, funcIriFromStr};
 ghost use Rattle.length.specs.Lengths as lengths;
 ghost use Rattle.paint.specs.Answers as paints;
+ghost use Rattle.paint.specs.Packed as painted;
 
 mod answers;
 mod filters;
@@ -22,6 +24,14 @@ pub extern "C" fn homeludaf_color(text: &[u8], answer: &mut [u64; 24])
     ensures { λ _. ⌜ now (answer .exit) ≡ colorRecord (colors.fromStr (now (text .entry))) ⌝ }
 {
     answers::write_color(answer, color::from_str(text));
+}
+
+// A colour as one number, which comes back in a register: no record is filled and read.
+#[no_mangle]
+pub extern "C" fn homeludaf_color_packed(text: &[u8]) -> u64
+    ensures { λ r. ⌜ r ≡ colored.packedAnswer (colors.fromStr (now (text .entry))) ⌝ }
+{
+    color::packed_from_str(text)
 }
 
 #[no_mangle]
@@ -74,6 +84,14 @@ pub extern "C" fn homeludaf_paint(text: &[u8], answer: &mut [u64; 24])
     ensures { λ _. ⌜ now (answer .exit) ≡ paintRecord (paints.fromStr (now (text .entry))) ⌝ }
 {
     paint_into(text, answer);
+}
+
+// A paint as one number, likewise.
+#[no_mangle]
+pub extern "C" fn homeludaf_paint_packed(text: &[u8]) -> u64
+    ensures { λ r. ⌜ r ≡ painted.packedAnswer (paints.fromStr (now (text .entry))) ⌝ }
+{
+    paint::packed_from_str(text)
 }
 
 // The inherit rule, over an element's own paint and its parent's, by their records: entry 0 is a refusal's number, entry 9 is 2 for `inherit`.
