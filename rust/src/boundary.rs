@@ -5,15 +5,16 @@
 
 use std::mem::MaybeUninit;
 
+use crate::packed::Packed;
 use crate::record::{Record, ENTRIES};
 
 extern "C" {
-    fn homeludaf_color(text: *const u8, length: usize, answer: *mut u64);
+    fn homeludaf_color_packed(text: *const u8, length: usize) -> u64;
+    fn homeludaf_paint_packed(text: *const u8, length: usize) -> u64;
     fn homeludaf_length(text: *const u8, length: usize, answer: *mut u64);
     fn homeludaf_angle(text: *const u8, length: usize, answer: *mut u64);
     fn homeludaf_iri(text: *const u8, length: usize, answer: *mut u64);
     fn homeludaf_func_iri(text: *const u8, length: usize, answer: *mut u64);
-    fn homeludaf_paint(text: *const u8, length: usize, answer: *mut u64);
     fn homeludaf_length_all(
         text: *const u8,
         length: usize,
@@ -32,6 +33,9 @@ extern "C" {
     );
 }
 
+/// A function that answers a whole text by one number; only those declared above are ever handed over.
+type One = unsafe extern "C" fn(*const u8, usize) -> u64;
+
 /// A function that reads a whole text; only those declared above are ever handed over.
 type Whole = unsafe extern "C" fn(*const u8, usize, *mut u64);
 
@@ -49,14 +53,30 @@ impl Room {
 }
 
 #[inline(always)]
-fn whole<'r>(call: Whole, text: &str, room: &'r mut Room) -> &'r Record {
+fn one(call: One, text: &str) -> Packed {
     // SAFETY: pointer and length are those of one `&str`, which is never null and lives through
     // the call; the callee only reads it and keeps neither pointer (proved: the text is lent as
-    // `&[u8]`). The answer is a record of ours and overlaps no text, since it is lent to us alone.
-    // The callee fills all of it and nothing else (proved: it is lent as `&mut [u64; 24]`, and the
+    // `&[u8]`), is safe and ends on every input (proved: its contract has no `requires`), and does
+    // not unwind.
+    Packed(unsafe { call(text.as_ptr(), text.len()) })
+}
+
+#[inline(always)]
+pub(crate) fn color(text: &str) -> Packed {
+    one(homeludaf_color_packed, text)
+}
+
+#[inline(always)]
+pub(crate) fn paint(text: &str) -> Packed {
+    one(homeludaf_paint_packed, text)
+}
+
+#[inline(always)]
+fn whole<'r>(call: Whole, text: &str, room: &'r mut Room) -> &'r Record {
+    // SAFETY: of the text, as in `one`. The answer is a record of ours and overlaps no text, since
+    // it is lent to us alone. The callee fills all of it and nothing else (proved: it is lent as `&mut [u64; 24]`, and the
     // contract gives every entry), so that it may be read after the call. What lay there before may
-    // be anything: the contract asks nothing of it, and the answer does not depend on it. The callee
-    // is safe and ends on every input (proved: its contract has no `requires`), and does not unwind.
+    // be anything: the contract asks nothing of it, and the answer does not depend on it.
     unsafe {
         call(text.as_ptr(), text.len(), room.0.as_mut_ptr().cast());
         room.0.assume_init_ref()
@@ -73,16 +93,14 @@ macro_rules! calls {
 }
 
 calls! {
-    color => homeludaf_color,
     length => homeludaf_length,
     angle => homeludaf_angle,
     iri => homeludaf_iri,
-    func_iri => homeludaf_func_iri,
-    paint => homeludaf_paint
+    func_iri => homeludaf_func_iri
 }
 
 /// How many steps of a list are read at once.
-const KEPT: usize = 16;
+const KEPT: usize = 32;
 
 /// Steps of a list that were read before they were asked for, as records; the first of them is
 /// handed out next.

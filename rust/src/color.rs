@@ -1,8 +1,6 @@
 //! Colours.
 
-use crate::boundary::{self, Room};
-use crate::record::RESULT;
-use crate::Error;
+use crate::{boundary, Error};
 
 /// Representation of the [`<color>`] type.
 ///
@@ -78,11 +76,10 @@ impl std::str::FromStr for Color {
     /// notation of four and eight digits.
     #[inline]
     fn from_str(text: &str) -> Result<Self, Error> {
-        let mut room = Room::new();
-        let record = boundary::color(text, &mut room);
-        if record.is_refused() {
-            return Err(Error::of(record, text));
+        let answer = boundary::color(text);
+        if answer.kind() == 0 {
+            return Err(answer.error());
         }
-        Ok(record.color(RESULT))
+        Ok(answer.color())
     }
 }

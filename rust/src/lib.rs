@@ -1,7 +1,7 @@
 //! SVG colours, paints, links, lengths, angles and filter lists, read by proved code.
 //!
 //! The names and signatures are those of svgtypes 0.16.1, for the part of it that is ported. The
-//! reading itself is done by an archive of proved functions; this crate turns its records into
+//! reading itself is done by an archive of proved functions; this crate turns its answers into
 //! svgtypes' types.
 //!
 //! ```
@@ -31,6 +31,7 @@ mod filter_functions;
 mod funciri;
 mod length;
 mod list;
+mod packed;
 mod paint;
 mod record;
 

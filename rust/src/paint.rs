@@ -1,8 +1,6 @@
 //! Paints.
 
-use crate::boundary::{self, Room};
-use crate::record::{foreign, RESULT};
-use crate::{Color, Error};
+use crate::{boundary, Color, Error};
 
 /// Representation of the fallback part of the [`<paint>`] type.
 ///
@@ -61,12 +59,6 @@ pub enum Paint<'a> {
     ContextStroke,
 }
 
-// A paint's entries: its kind, its link, its fallback's kind, and the colour of either.
-const KIND: usize = RESULT;
-const LINK: usize = RESULT + 1;
-const FALLBACK: usize = RESULT + 3;
-const COLOR: usize = RESULT + 4;
-
 impl<'a> Paint<'a> {
     /// Parses a `Paint` from a string.
     ///
@@ -74,29 +66,24 @@ impl<'a> Paint<'a> {
     #[allow(clippy::should_implement_trait)]
     #[inline]
     pub fn from_str(text: &'a str) -> Result<Self, Error> {
-        let mut room = Room::new();
-        let record = boundary::paint(text, &mut room);
-        if record.is_refused() {
-            return Err(Error::of(record, text));
-        }
-        Ok(match record.kind(KIND) {
+        let answer = boundary::paint(text);
+        Ok(match answer.kind() {
+            0 => return Err(answer.error()),
             1 => Paint::None,
             2 => Paint::Inherit,
             3 => Paint::CurrentColor,
             4 => Paint::ContextFill,
             5 => Paint::ContextStroke,
-            6 => Paint::Color(record.color(COLOR)),
-            7 => {
-                let fallback = match record.kind(FALLBACK) {
+            6 => Paint::Color(answer.color()),
+            _ => {
+                let fallback = match answer.fallback() {
                     0 => None,
                     1 => Some(PaintFallback::None),
                     2 => Some(PaintFallback::CurrentColor),
-                    3 => Some(PaintFallback::Color(record.color(COLOR))),
-                    other => foreign("fallback", other),
+                    _ => Some(PaintFallback::Color(answer.color())),
                 };
-                Paint::FuncIRI(record.part(LINK, text), fallback)
+                Paint::FuncIRI(answer.link(text), fallback)
             }
-            other => foreign("paint", other),
         })
     }
 }
