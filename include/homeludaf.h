@@ -1,7 +1,8 @@
 /* Homeludaf's C boundary: SVG colours, lengths, angles, links, paints and filter values, read by proved code.
  *
  * A text is a pointer, which is not null, and its length in bytes; it needs no end mark and no promise: one that is too long or not UTF-8 is refused.
- * Each call fills whole answers, 24 numbers of 64 bits each. The layout is that of crates/exports/specs/Records.antt, which the proofs cite.
+ * Each call fills whole answers, 24 numbers of 64 bits each; two give their answer as one number instead. The layout of an answer is that of
+ * crates/exports/specs/Records.antt, which the proofs cite.
  * Places and parts are counted in bytes of the text, positions in characters from 1. What an answer does not use is 0.
  */
 #ifndef HOMELUDAF_H
