@@ -1,8 +1,8 @@
 /* Homeludaf's C boundary: SVG colours, lengths, angles, links, paints and filter values, read by proved code.
  *
  * A text is a pointer, which is not null, and its length in bytes; it needs no end mark and no promise: one that is too long or not UTF-8 is refused.
- * Each call fills whole answers, 24 numbers of 64 bits each; two give their answer as one number instead. The layout of an answer is that of
- * crates/exports/specs/Records.antt, which the proofs cite.
+ * Each call fills whole answers, 24 numbers of 64 bits each; two give a value as one number and fill an answer for a refusal alone. The layouts are those
+ * of crates/records/specs/Records.antt and crates/packed/specs/Numbers.antt, which the proofs cite.
  * Places and parts are counted in bytes of the text, positions in characters from 1. What an answer does not use is 0.
  */
 #ifndef HOMELUDAF_H
@@ -136,16 +136,10 @@ struct homeludaf_answer {
 
 enum { HOMELUDAF_ENTRIES = 24 };                       /* the numbers of an answer */
 
-/* A colour's or a paint's answer as one number. Its kind is 0 for a refusal, else an enum homeludaf_paint_kind: a colour's answer has
- * HOMELUDAF_PAINT_COLOR or 0. A refusal has code, position, place, found and wanted; a colour, or a paint that is one, red to alpha;
- * a link its part and its fallback, and red to alpha where that is a colour. The layout is that of specs/Packed.antt in color and paint. */
+/* A colour's or a paint's value as one number, which is never 0. Its kind is an enum homeludaf_paint_kind; a colour has HOMELUDAF_PAINT_COLOR.
+ * A colour, or a paint that is one, has red to alpha; a link its part and its fallback, and red to alpha where that is a colour. */
 #define HOMELUDAF_PACKED_BITS(v, from, count) (((uint64_t)(v) >> (from)) & ((UINT64_C(1) << (count)) - 1))
 #define HOMELUDAF_PACKED_KIND(v) HOMELUDAF_PACKED_BITS(v, 0, 3)
-#define HOMELUDAF_PACKED_CODE(v) HOMELUDAF_PACKED_BITS(v, 3, 4)
-#define HOMELUDAF_PACKED_POSITION(v) HOMELUDAF_PACKED_BITS(v, 7, 13)
-#define HOMELUDAF_PACKED_PLACE(v) HOMELUDAF_PACKED_BITS(v, 20, 13)
-#define HOMELUDAF_PACKED_FOUND(v) HOMELUDAF_PACKED_BITS(v, 33, 8)
-#define HOMELUDAF_PACKED_WANTED(v) HOMELUDAF_PACKED_BITS(v, 49, 8)
 #define HOMELUDAF_PACKED_LINK_START(v) HOMELUDAF_PACKED_BITS(v, 3, 13)
 #define HOMELUDAF_PACKED_LINK_LENGTH(v) HOMELUDAF_PACKED_BITS(v, 16, 13)
 #define HOMELUDAF_PACKED_FALLBACK(v) HOMELUDAF_PACKED_BITS(v, 29, 2)
@@ -177,9 +171,10 @@ void homeludaf_paint(const uint8_t *text, size_t length, struct homeludaf_answer
 void homeludaf_inherited(const uint8_t *own, size_t own_length, const uint8_t *parent, size_t parent_length, struct homeludaf_answer *answer);
 void homeludaf_filter_next(const uint8_t *text, size_t length, size_t place, struct homeludaf_answer *answer);
 
-/* A colour or a paint as one number: the answer of homeludaf_color or of homeludaf_paint, with no memory to fill. */
-uint64_t homeludaf_color_packed(const uint8_t *text, size_t length);
-uint64_t homeludaf_paint_packed(const uint8_t *text, size_t length);
+/* A colour or a paint as one number. A value is the number, and `answer` stays as it came. A refusal is 0, and fills `answer` as homeludaf_color or
+ * homeludaf_paint would. */
+uint64_t homeludaf_color_packed(const uint8_t *text, size_t length, struct homeludaf_answer *answer);
+uint64_t homeludaf_paint_packed(const uint8_t *text, size_t length, struct homeludaf_answer *answer);
 
 /* Many steps of a list at once, with one test of the text: the answers of the single steps, each from the list place of the one before it, up to and with the
  * first whose state is not HOMELUDAF_STATE_VALUE, as many as fit. `entries` counts the numbers lent, HOMELUDAF_ENTRIES for each answer; those behind the last

@@ -9,6 +9,18 @@ _Static_assert(offsetof(struct homeludaf_answer, result) == 9 * sizeof(uint64_t)
 _Static_assert(offsetof(struct homeludaf_answer, result.paint.color) == 13 * sizeof(uint64_t), "a paint's colour at 13");
 _Static_assert(offsetof(struct homeludaf_answer, result.filter.value.shadow.colored) == 16 * sizeof(uint64_t), "whether a shadow has a colour at 16");
 
+#define TEXT(s) (const uint8_t *)(s), sizeof(s) - 1
+#define TEXT_OF(s) { s, sizeof(s) - 1 }
+#define COUNT(array) (sizeof (array) / sizeof (array)[0])
+
+struct text {
+    const char *at;
+    size_t length;
+};
+
+static const char lengths[] = "10 20px, 5%";
+static const char filters[] = "blur(2px) drop-shadow(1 2 3 red) opacity(50%) hue-rotate(90deg) url(#x) blur(-1)";
+
 static int failed = 0;
 
 static void expect(const char *what, int ok)
@@ -52,37 +64,42 @@ static void many(const char *what, next_call *next, all_call *all, const char *t
     expect(what, told.count == n && told.list_place == place && memcmp(got, wanted, sizeof got) == 0);
 }
 
-/* The answer as one number is the record's, field by field. Without a link the fields of a link are 0, and so on. */
-static void packed(const char *what, uint64_t v, const struct homeludaf_answer *a, uint64_t kind, const struct homeludaf_rgba *color)
+typedef uint64_t packed_call(const uint8_t *, size_t, struct homeludaf_answer *);
+
+/* The number's parts, all its 64 bits, are a paint's in a record. */
+static int same_paint(uint64_t v, uint64_t kind, struct homeludaf_part link, uint64_t fallback, struct homeludaf_rgba color)
 {
-    int same = HOMELUDAF_PACKED_KIND(v) == kind;
-    if (kind == 0)
-        same = same && HOMELUDAF_PACKED_CODE(v) == a->code && HOMELUDAF_PACKED_POSITION(v) == a->position && HOMELUDAF_PACKED_PLACE(v) == a->place
-               && HOMELUDAF_PACKED_FOUND(v) == a->found && HOMELUDAF_PACKED_WANTED(v) == a->wanted && v >> 57 == 0;
-    else
-        same = same && HOMELUDAF_PACKED_RED(v) == color->red && HOMELUDAF_PACKED_GREEN(v) == color->green
-               && HOMELUDAF_PACKED_BLUE(v) == color->blue && HOMELUDAF_PACKED_ALPHA(v) == color->alpha && v >> 63 == 0;
-    expect(what, same);
+    return HOMELUDAF_PACKED_KIND(v) == kind && HOMELUDAF_PACKED_LINK_START(v) == link.start && HOMELUDAF_PACKED_LINK_LENGTH(v) == link.length
+           && HOMELUDAF_PACKED_FALLBACK(v) == fallback && HOMELUDAF_PACKED_RED(v) == color.red && HOMELUDAF_PACKED_GREEN(v) == color.green
+           && HOMELUDAF_PACKED_BLUE(v) == color.blue && HOMELUDAF_PACKED_ALPHA(v) == color.alpha && v >> 63 == 0;
 }
 
+/* The number that `call` gives. For a refusal it is 0 and the record that was lent is `wanted`; for a value that record is as it came. */
+static uint64_t packed(const char *what, packed_call *call, const char *text, size_t length, const struct homeludaf_answer *wanted)
+{
+    struct homeludaf_answer got, before;
+    memset(&before, 0xa5, sizeof before);
+    got = before;
+    uint64_t v = call((const uint8_t *)text, length, &got);
+    expect(what, (v == 0) == (wanted->code != HOMELUDAF_OK));
+    expect(what, memcmp(&got, v == 0 ? wanted : &before, sizeof got) == 0);
+    return v;
+}
+
+/* The calls that give one number answer what those that fill a record do. */
 static void both_packed(const char *text, size_t length)
 {
+    const struct homeludaf_part no_link = { 0, 0 };
     struct homeludaf_answer a;
-    uint64_t v = homeludaf_color_packed((const uint8_t *)text, length);
     homeludaf_color((const uint8_t *)text, length, &a);
-    packed("color_packed", v, &a, a.code ? 0 : HOMELUDAF_PAINT_COLOR, &a.result.color);
-    v = homeludaf_paint_packed((const uint8_t *)text, length);
+    uint64_t v = packed("color_packed", homeludaf_color_packed, text, length, &a);
+    expect("color_packed, value", v == 0 || same_paint(v, HOMELUDAF_PAINT_COLOR, no_link, HOMELUDAF_FALLBACK_ABSENT, a.result.color));
     homeludaf_paint((const uint8_t *)text, length, &a);
-    packed("paint_packed", v, &a, a.result.paint.kind, &a.result.paint.color);
-    if (a.code == 0)
-        expect("paint_packed, link", HOMELUDAF_PACKED_LINK_START(v) == a.result.paint.link.start
-                                         && HOMELUDAF_PACKED_LINK_LENGTH(v) == a.result.paint.link.length && HOMELUDAF_PACKED_FALLBACK(v) == a.result.paint.fallback);
+    v = packed("paint_packed", homeludaf_paint_packed, text, length, &a);
+    expect("paint_packed, value", v == 0 || same_paint(v, a.result.paint.kind, a.result.paint.link, a.result.paint.fallback, a.result.paint.color));
 }
 
-#define TEXT(s) (const uint8_t *)(s), sizeof(s) - 1
-#define TEXT_OF(s) (s), sizeof(s) - 1
-
-int main(void)
+static void whole_colors(void)
 {
     struct homeludaf_answer a;
 
@@ -101,6 +118,11 @@ int main(void)
     homeludaf_color((const uint8_t *)"", 0, &a);
     show("color of nothing", &a);
     expect("color of nothing", a.code == HOMELUDAF_UNEXPECTED_END);
+}
+
+static void other_whole_texts(void)
+{
+    struct homeludaf_answer a;
 
     memset(&a, 0xff, sizeof a);
     homeludaf_length(TEXT("1.5em"), &a);
@@ -132,31 +154,41 @@ int main(void)
     homeludaf_inherited(TEXT(" inherit "), TEXT("  red"), &a);
     show("inherited", &a);
     expect("inherited", a.result.inherited.whose == HOMELUDAF_WHOSE_PARENT && a.result.inherited.part.start == 2 && a.result.inherited.part.length == 3);
+}
 
-    uint64_t v = homeludaf_paint_packed(TEXT("  url(#g) #0102037f "));
+static void packed_numbers(void)
+{
+    struct homeludaf_answer a;
+    uint64_t v = homeludaf_paint_packed(TEXT("  url(#g) #0102037f "), &a);
     printf("paint_packed: %llx\n", (unsigned long long)v);
     expect("paint_packed, by hand", v == (7 | 7 << 3 | 1 << 16 | UINT64_C(3) << 29 | UINT64_C(0x7f030201) << 31));
-    v = homeludaf_color_packed(TEXT("rgb[1"));
-    printf("color_packed: %llx\n", (unsigned long long)v);
-    expect("color_packed, by hand", v == (7 << 3 | 4 << 7 | (uint64_t)'[' << 33 | (uint64_t)'(' << 49));
-    const struct { const char *text; size_t length; } paints[] = {
-        { TEXT_OF("") }, { TEXT_OF(" ") }, { TEXT_OF("#") }, { TEXT_OF("#12") }, { TEXT_OF("#123") }, { TEXT_OF("#1234567") }, { TEXT_OF(" #11223344\t") },
-        { TEXT_OF("none") }, { TEXT_OF("inherit ") }, { TEXT_OF("currentColor") }, { TEXT_OF("context-fill") }, { TEXT_OF("\ncontext-stroke") }, { TEXT_OF("Red") },
-        { TEXT_OF("transparent") }, { TEXT_OF("redd") }, { TEXT_OF("red\xc2\xa0") }, { TEXT_OF("red\xff") }, { TEXT_OF("rgb(1,2,3)") }, { TEXT_OF("rgb(1,2,x)") },
-        { TEXT_OF("rgb(1e400,2,3)") }, { TEXT_OF("rgb(10%, 20%, 30%, .5)") }, { TEXT_OF("hsl(120, 100%, 50%)") }, { TEXT_OF("hsla(1,2%,3%,.4) x") },
-        { TEXT_OF("url(#a)") }, { TEXT_OF("url(#a) ") }, { TEXT_OF("url(#a)none") }, { TEXT_OF("url(#a) none") }, { TEXT_OF("url(#a) currentColor") },
-        { TEXT_OF(" url('#b' ) rgb(1,2,3)") }, { TEXT_OF("url(#\xc3\xa9) teal") }, { TEXT_OF("url(#a) nothing") }, { TEXT_OF("url(#a) rgb(1,2") }, { TEXT_OF("url(#a") },
+
+    memset(&a, 0xff, sizeof a);
+    v = homeludaf_color_packed(TEXT("rgb[1"), &a);
+    show("color_packed refused", &a);
+    expect("color_packed refused", v == 0 && a.code == HOMELUDAF_INVALID_CHAR && a.position == 4 && a.found == '[' && a.wanted == '(' && a.result.color.alpha == 0);
+
+    static const struct text paints[] = {
+        TEXT_OF(""), TEXT_OF(" "), TEXT_OF("#"), TEXT_OF("#12"), TEXT_OF("#123"), TEXT_OF("#1234567"), TEXT_OF(" #11223344\t"),
+        TEXT_OF("none"), TEXT_OF("inherit "), TEXT_OF("currentColor"), TEXT_OF("context-fill"), TEXT_OF("\ncontext-stroke"), TEXT_OF("Red"),
+        TEXT_OF("transparent"), TEXT_OF("redd"), TEXT_OF("red\xc2\xa0"), TEXT_OF("red\xff"), TEXT_OF("rgb(1,2,3)"), TEXT_OF("rgb(1,2,x)"),
+        TEXT_OF("rgb(1e400,2,3)"), TEXT_OF("rgb(10%, 20%, 30%, .5)"), TEXT_OF("hsl(120, 100%, 50%)"), TEXT_OF("hsla(1,2%,3%,.4) x"),
+        TEXT_OF("url(#a)"), TEXT_OF("url(#a) "), TEXT_OF("url(#a)none"), TEXT_OF("url(#a) none"), TEXT_OF("url(#a) currentColor"),
+        TEXT_OF(" url('#b' ) rgb(1,2,3)"), TEXT_OF("url(#\xc3\xa9) teal"), TEXT_OF("url(#a) nothing"), TEXT_OF("url(#a) rgb(1,2"), TEXT_OF("url(#a"),
     };
-    for (size_t i = 0; i < sizeof paints / sizeof paints[0]; i++)
+    for (size_t i = 0; i < COUNT(paints); i++)
         for (size_t n = 0; n <= paints[i].length; n++)
-            both_packed(paints[i].text, n);
+            both_packed(paints[i].at, n);
     static char wide[4098];
     memset(wide, ' ', sizeof wide);
     memcpy(wide + 4089, "url(#a)", 7);
     for (size_t n = 4090; n <= 4098; n++)
         both_packed(wide, n);
+}
 
-    const char lengths[] = "10 20px, 5%";
+static void length_steps(void)
+{
+    struct homeludaf_answer a;
     size_t place = 0;
     int n = 0;
     for (;;) {
@@ -169,11 +201,14 @@ int main(void)
         n++;
     }
     expect("length_next", n == 3 && a.state == HOMELUDAF_STATE_END && place == sizeof lengths - 1);
+}
 
-    const char filters[] = "blur(2px) drop-shadow(1 2 3 red) opacity(50%) hue-rotate(90deg) url(#x) blur(-1)";
-    uint64_t kinds[] = { HOMELUDAF_FILTER_BLUR, HOMELUDAF_FILTER_DROP_SHADOW, HOMELUDAF_FILTER_OPACITY, HOMELUDAF_FILTER_HUE_ROTATE, HOMELUDAF_FILTER_URL };
-    place = 0;
-    n = 0;
+static void filter_steps(void)
+{
+    static const uint64_t kinds[] = { HOMELUDAF_FILTER_BLUR, HOMELUDAF_FILTER_DROP_SHADOW, HOMELUDAF_FILTER_OPACITY, HOMELUDAF_FILTER_HUE_ROTATE, HOMELUDAF_FILTER_URL };
+    struct homeludaf_answer a;
+    size_t place = 0;
+    int n = 0;
     for (;;) {
         memset(&a, 0xff, sizeof a);
         homeludaf_filter_next(TEXT(filters), place, &a);
@@ -195,18 +230,30 @@ int main(void)
     homeludaf_filter_next(TEXT("none"), 0, &a);
     show("filter_next none", &a);
     expect("filter_next none", a.state == HOMELUDAF_STATE_NONE && a.list_place == 4);
+}
 
-    const struct { const char *text; size_t length; } lists[] = {
-        { TEXT_OF(filters) }, { TEXT_OF("none") }, { TEXT_OF("") }, { TEXT_OF("  ") }, { TEXT_OF("blur(2px)\xff") }, { TEXT_OF("url(#\xc3\xa9) sepia()") }, { TEXT_OF(lengths) }, { TEXT_OF("1,2,,3") },
+static void many_steps(void)
+{
+    static const struct text lists[] = {
+        TEXT_OF(filters), TEXT_OF("none"), TEXT_OF(""), TEXT_OF("  "), TEXT_OF("blur(2px)\xff"), TEXT_OF("url(#\xc3\xa9) sepia()"), TEXT_OF(lengths), TEXT_OF("1,2,,3"),
     };
-    const size_t lent[] = { 0, 23, 24, 49, 72, 8 * 24 };
-    for (size_t i = 0; i < sizeof lists / sizeof lists[0]; i++)
+    static const size_t lent[] = { 0, 23, 24, 49, 72, 8 * 24 };
+    for (size_t i = 0; i < COUNT(lists); i++)
         for (size_t start = 0; start <= lists[i].length + 1; start++)
-            for (size_t k = 0; k < sizeof lent / sizeof lent[0]; k++) {
-                many("filter_all", homeludaf_filter_next, homeludaf_filter_all, lists[i].text, lists[i].length, start, lent[k]);
-                many("length_all", homeludaf_length_next, homeludaf_length_all, lists[i].text, lists[i].length, start, lent[k]);
+            for (size_t k = 0; k < COUNT(lent); k++) {
+                many("filter_all", homeludaf_filter_next, homeludaf_filter_all, lists[i].at, lists[i].length, start, lent[k]);
+                many("length_all", homeludaf_length_next, homeludaf_length_all, lists[i].at, lists[i].length, start, lent[k]);
             }
+}
 
+int main(void)
+{
+    whole_colors();
+    other_whole_texts();
+    packed_numbers();
+    length_steps();
+    filter_steps();
+    many_steps();
     printf(failed ? "not as expected\n" : "all as expected\n");
     return failed;
 }

@@ -9,8 +9,8 @@ use crate::packed::Packed;
 use crate::record::{Record, ENTRIES};
 
 extern "C" {
-    fn homeludaf_color_packed(text: *const u8, length: usize) -> u64;
-    fn homeludaf_paint_packed(text: *const u8, length: usize) -> u64;
+    fn homeludaf_color_packed(text: *const u8, length: usize, answer: *mut u64) -> u64;
+    fn homeludaf_paint_packed(text: *const u8, length: usize, answer: *mut u64) -> u64;
     fn homeludaf_length(text: *const u8, length: usize, answer: *mut u64);
     fn homeludaf_angle(text: *const u8, length: usize, answer: *mut u64);
     fn homeludaf_iri(text: *const u8, length: usize, answer: *mut u64);
@@ -33,11 +33,12 @@ extern "C" {
     );
 }
 
-/// A function that answers a whole text by one number; only those declared above are ever handed over.
-type One = unsafe extern "C" fn(*const u8, usize) -> u64;
-
 /// A function that reads a whole text; only those declared above are ever handed over.
 type Whole = unsafe extern "C" fn(*const u8, usize, *mut u64);
+
+/// A function that reads a whole text and gives its value as one number; only those declared above
+/// are ever handed over.
+type One = unsafe extern "C" fn(*const u8, usize, *mut u64) -> u64;
 
 /// A function that reads steps of a list; only those declared above are ever handed over.
 type Many = unsafe extern "C" fn(*const u8, usize, usize, *mut u64, usize, *mut u64);
@@ -53,28 +54,12 @@ impl Room {
 }
 
 #[inline(always)]
-fn one(call: One, text: &str) -> Packed {
+fn whole<'r>(call: Whole, text: &str, room: &'r mut Room) -> &'r Record {
     // SAFETY: pointer and length are those of one `&str`, which is never null and lives through
     // the call; the callee only reads it and keeps neither pointer (proved: the text is lent as
     // `&[u8]`), is safe and ends on every input (proved: its contract has no `requires`), and does
-    // not unwind.
-    Packed(unsafe { call(text.as_ptr(), text.len()) })
-}
-
-#[inline(always)]
-pub(crate) fn color(text: &str) -> Packed {
-    one(homeludaf_color_packed, text)
-}
-
-#[inline(always)]
-pub(crate) fn paint(text: &str) -> Packed {
-    one(homeludaf_paint_packed, text)
-}
-
-#[inline(always)]
-fn whole<'r>(call: Whole, text: &str, room: &'r mut Room) -> &'r Record {
-    // SAFETY: of the text, as in `one`. The answer is a record of ours and overlaps no text, since
-    // it is lent to us alone. The callee fills all of it and nothing else (proved: it is lent as `&mut [u64; 24]`, and the
+    // not unwind. The answer is a record of ours and overlaps no text, since it is lent to us alone.
+    // The callee fills all of it and nothing else (proved: it is lent as `&mut [u64; 24]`, and the
     // contract gives every entry), so that it may be read after the call. What lay there before may
     // be anything: the contract asks nothing of it, and the answer does not depend on it.
     unsafe {
@@ -97,6 +82,29 @@ calls! {
     angle => homeludaf_angle,
     iri => homeludaf_iri,
     func_iri => homeludaf_func_iri
+}
+
+/// The value of a text, or the record of its refusal.
+#[inline(always)]
+fn one<'r>(call: One, text: &str, room: &'r mut Room) -> Result<Packed, &'r Record> {
+    // SAFETY: as in `whole`, but that the callee fills the record where it gives 0 and only there
+    // (proved), so that it may be read in that case alone.
+    unsafe {
+        match call(text.as_ptr(), text.len(), room.0.as_mut_ptr().cast()) {
+            0 => Err(room.0.assume_init_ref()),
+            number => Ok(Packed(number)),
+        }
+    }
+}
+
+#[inline(always)]
+pub(crate) fn color<'r>(text: &str, room: &'r mut Room) -> Result<Packed, &'r Record> {
+    one(homeludaf_color_packed, text, room)
+}
+
+#[inline(always)]
+pub(crate) fn paint<'r>(text: &str, room: &'r mut Room) -> Result<Packed, &'r Record> {
+    one(homeludaf_paint_packed, text, room)
 }
 
 /// How many steps of a list are read at once.

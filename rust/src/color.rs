@@ -1,6 +1,7 @@
 //! Colours.
 
-use crate::{boundary, Error};
+use crate::boundary::{self, Room};
+use crate::Error;
 
 /// Representation of the [`<color>`] type.
 ///
@@ -76,10 +77,9 @@ impl std::str::FromStr for Color {
     /// notation of four and eight digits.
     #[inline]
     fn from_str(text: &str) -> Result<Self, Error> {
-        let answer = boundary::color(text);
-        if answer.kind() == 0 {
-            return Err(answer.error());
+        match boundary::color(text, &mut Room::new()) {
+            Ok(value) => Ok(value.color()),
+            Err(refused) => Err(Error::of(refused, text)),
         }
-        Ok(answer.color())
     }
 }

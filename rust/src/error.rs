@@ -122,40 +122,26 @@ impl Error {
     /// The error of a refused record.
     #[inline]
     pub(crate) fn of(record: &Record, text: &str) -> Self {
-        Error::told(record.number(), record.position(), |number, position| {
-            let part = record.found_part(text);
-            Error::with_texts(number, position, record.found_and_wanted(), part)
-        })
-    }
-
-    /// The error of a refusal by its number and position; `with_texts` makes those that tell more.
-    #[inline]
-    pub(crate) fn told(
-        number: u64,
-        position: usize,
-        with_texts: impl FnOnce(u64, usize) -> Self,
-    ) -> Self {
-        match number {
+        match record.number() {
             4 => Error::UnexpectedEndOfStream,
             5 => Error::InvalidValue,
-            6 => Error::UnexpectedData(position),
-            9 => Error::InvalidNumber(position),
-            _ => with_texts(number, position),
+            6 => Error::UnexpectedData(record.position()),
+            9 => Error::InvalidNumber(record.position()),
+            _ => Error::with_texts(record, text),
         }
     }
 
     /// The errors that tell the bytes found and wanted, or the part found, and so allocate.
     #[cold]
-    pub(crate) fn with_texts(
-        number: u64,
-        position: usize,
-        found_and_wanted: [u8; 2],
-        part: &str,
-    ) -> Self {
-        match number {
+    fn with_texts(record: &Record, text: &str) -> Self {
+        let position = record.position();
+        match record.number() {
             1 => Error::InvalidString(TOO_LONG.map(String::from).into(), position),
-            7 => Error::InvalidChar(found_and_wanted.into(), position),
-            8 => Error::InvalidString([part, LINK_START].map(String::from).into(), position),
+            7 => Error::InvalidChar(record.found_and_wanted().into(), position),
+            8 => {
+                let strings = [record.found_part(text), LINK_START];
+                Error::InvalidString(strings.map(String::from).into(), position)
+            }
             10 => Error::InvalidString(OUTSIDE.map(String::from).into(), position),
             other => foreign("refusal", other),
         }

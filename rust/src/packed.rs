@@ -1,11 +1,11 @@
-//! A colour's or a paint's answer as one number, and what its bits stand for.
+//! A colour's or a paint's value as one number, and what its bits stand for.
 //!
-//! The layout is stated in specs/Packed.antt of crates/color and crates/paint, which the proofs
-//! cite, and in include/homeludaf.h.
+//! The layout is stated in crates/packed/specs/Numbers.antt, which the proofs cite, and in
+//! include/homeludaf.h.
 
-use crate::{Color, Error};
+use crate::Color;
 
-/// An answer as it came over the boundary.
+/// A value as it came over the boundary.
 #[derive(Clone, Copy)]
 pub(crate) struct Packed(pub(crate) u64);
 
@@ -16,7 +16,7 @@ impl Packed {
         (self.0 >> from) & ((1 << count) - 1)
     }
 
-    /// 0 for a refusal, 6 for a colour; a paint has kinds from 1 to 7.
+    /// 6 for a colour; a paint has kinds from 1 to 7.
     #[inline(always)]
     pub(crate) fn kind(self) -> u64 {
         self.bits(0, 3)
@@ -42,15 +42,5 @@ impl Packed {
     pub(crate) fn link(self, text: &str) -> &str {
         let start = self.bits(3, 13) as usize;
         &text[start..start + self.bits(16, 13) as usize]
-    }
-
-    /// The error of a refusal. None of a colour or a paint tells a part of the text.
-    #[inline]
-    pub(crate) fn error(self) -> Error {
-        let position = self.bits(7, 13) as usize;
-        Error::told(self.bits(3, 4), position, |number, position| {
-            let found_and_wanted = [self.bits(33, 8) as u8, self.bits(49, 8) as u8];
-            Error::with_texts(number, position, found_and_wanted, "")
-        })
     }
 }

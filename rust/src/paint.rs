@@ -1,6 +1,9 @@
 //! Paints.
 
-use crate::{boundary, Color, Error};
+use crate::boundary::{self, Room};
+use crate::packed::Packed;
+use crate::record::foreign;
+use crate::{Color, Error};
 
 /// Representation of the fallback part of the [`<paint>`] type.
 ///
@@ -66,24 +69,35 @@ impl<'a> Paint<'a> {
     #[allow(clippy::should_implement_trait)]
     #[inline]
     pub fn from_str(text: &'a str) -> Result<Self, Error> {
-        let answer = boundary::paint(text);
-        Ok(match answer.kind() {
-            0 => return Err(answer.error()),
+        match boundary::paint(text, &mut Room::new()) {
+            Ok(value) => Ok(Paint::of(value, text)),
+            Err(refused) => Err(Error::of(refused, text)),
+        }
+    }
+
+    #[inline(always)]
+    fn of(value: Packed, text: &'a str) -> Self {
+        match value.kind() {
             1 => Paint::None,
             2 => Paint::Inherit,
             3 => Paint::CurrentColor,
             4 => Paint::ContextFill,
             5 => Paint::ContextStroke,
-            6 => Paint::Color(answer.color()),
-            _ => {
-                let fallback = match answer.fallback() {
-                    0 => None,
-                    1 => Some(PaintFallback::None),
-                    2 => Some(PaintFallback::CurrentColor),
-                    _ => Some(PaintFallback::Color(answer.color())),
-                };
-                Paint::FuncIRI(answer.link(text), fallback)
-            }
-        })
+            6 => Paint::Color(value.color()),
+            7 => Paint::FuncIRI(value.link(text), PaintFallback::of(value)),
+            other => foreign("paint", other),
+        }
+    }
+}
+
+impl PaintFallback {
+    #[inline(always)]
+    fn of(value: Packed) -> Option<Self> {
+        match value.fallback() {
+            0 => None,
+            1 => Some(PaintFallback::None),
+            2 => Some(PaintFallback::CurrentColor),
+            _ => Some(PaintFallback::Color(value.color())),
+        }
     }
 }

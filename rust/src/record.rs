@@ -1,6 +1,6 @@
 //! The record that each call fills, and what its entries stand for.
 //!
-//! The layout is stated in crates/exports/specs/Records.antt, which the proofs cite, and in
+//! The layout is stated in crates/records/specs/Records.antt, which the proofs cite, and in
 //! include/homeludaf.h.
 
 use crate::{Angle, AngleUnit, Color, Length, LengthUnit};

@@ -3,8 +3,8 @@ use Prim.Native.Nat.{ℕ}
 use mathlib.Core.List.{List, _++_}
 use mathlib.Core.Path.{_≡_, refl}
 use Rattle.stream.specs.declared.Fault.{Fault}
-use Rattle.stream.specs.declared.Place.{Place}
-use Rattle.stream.proofs.Ahead.{Ahead, starts-more}
+use Rattle.bytes.specs.declared.Place.{Place}
+use Rattle.bytes.proofs.Ahead.{Ahead, starts-more}
 use Rattle.stream.proofs.Sames.{sames}
 use Rattle.numbers.specs.declared.Number.{Number}
 use Rattle.numbers.proofs.Sames.{same-numbers}

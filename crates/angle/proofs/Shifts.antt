@@ -3,10 +3,11 @@ use Prim.Native.Nat.{ℕ, _+_}
 use mathlib.Core.List.{List, _++_}
 use mathlib.Core.Path.{_≡_, refl}
 use lib.ListN.{length}
-use Rattle.stream.specs.Moves.{movePlace, moveFault}
+use Rattle.bytes.specs.Moves.{movePlace}
+use Rattle.stream.specs.Moves.{moveFault}
 use Rattle.stream.specs.declared.Fault.{Fault}
-use Rattle.stream.specs.declared.Place.{Place}
-use Rattle.stream.proofs.Shifts.{shifts, cond-push}
+use Rattle.bytes.specs.declared.Place.{Place}
+use Rattle.bytes.proofs.Shifts.{shifts, cond-push}
 use Rattle.numbers.specs.Moves.{moveNumber}
 use Rattle.numbers.specs.declared.Number.{Number}
 use Rattle.numbers.proofs.Shifts.{number-shift, number-move, number-push}

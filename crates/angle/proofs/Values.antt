@@ -7,13 +7,13 @@ use native.Mathlib.Omega.{arith}
 use lib.Dec.{T, ltb}
 use lib.Ieee.Scale.{finite}
 use lib.ListN.{length, drop}
-use Rattle.stream.specs.Faults.{place}
-use Rattle.stream.specs.Words.{ascii, startsWith}
+use Rattle.bytes.specs.Moves.{place}
+use Rattle.bytes.specs.Words.{ascii, startsWith}
 use Rattle.stream.specs.declared.Fault.{Fault}
-use Rattle.stream.specs.declared.Place.{Place}
-use Rattle.stream.proofs.Ahead.{Ahead, Passes, free, ahead-pass, pass-trans, pass-word}
-use Rattle.stream.proofs.Ranges.{either}
-use Rattle.stream.proofs.Wording.{word-inside}
+use Rattle.bytes.specs.declared.Place.{Place}
+use Rattle.bytes.proofs.Ahead.{Ahead, Passes, free, ahead-pass, pass-trans, pass-word}
+use Rattle.bytes.proofs.Ranges.{either}
+use Rattle.bytes.proofs.Wording.{word-inside}
 use Rattle.floats.proofs.Bounds.{is-finite}
 use Rattle.numbers.specs.Number.{parseNumber}
 use Rattle.numbers.specs.declared.Number.{Number}

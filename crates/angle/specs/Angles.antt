@@ -5,8 +5,9 @@ use mathlib.Core.List.{List}
 use lib.Dec.{ltb}
 use lib.Ieee.{Float, binary64, mul, div, ofBits}
 use lib.ListN.{length, drop}
-use Rattle.stream.specs.Words.{ascii, startsWith}
-use Rattle.stream.specs.Faults.{place, unexpectedData}
+use Rattle.bytes.specs.Words.{ascii, startsWith}
+use Rattle.bytes.specs.Moves.{place}
+use Rattle.stream.specs.Faults.{unexpectedData}
 use Rattle.stream.specs.Refusals.{refusalOf, admitText, thenAdmitted}
 use Rattle.numbers.specs.Number.{parseNumber}
 use Rattle.numbers.specs.Moves.{thenNumber}

@@ -3,11 +3,12 @@ ghost use mathlib.Core.Path.{_≡_};
 ghost use Prim.Native.Nat.{_≤_};
 ghost use lib.ListN.{length};
 ghost use Rattle.angle.specs.Angles.{toDegrees, parseUnit, parseAngle, parseWhole, fromStr};
+ghost use Rattle.angle.specs.Paper.{paper};
+use bytes::Place;
 use numbers::Number;
 use numbers::NumberRead;
 use stream::Admission;
 use stream::Fault;
-use stream::Place;
 use stream::Refusal;
 
 pub enum AngleUnit {
@@ -57,6 +58,7 @@ pub enum AngleAnswer {
 // A whole text: leading spaces are allowed, trailing ones are not.
 pub fn from_str(text: &[u8]) -> AngleAnswer
     ensures { λ r. ⌜ r ≡ fromStr (now (text .entry)) ⌝ }
+    ensures { λ r. ⌜ paper r ≡ paper (fromStr (now (text .entry))) ⌝ }
 {
     match stream::admit_text(text) {
         Admission::Refused(refusal) => AngleAnswer::Refused(refusal),
@@ -109,16 +111,16 @@ pub fn parse_unit(text: &[u8], at: Place) -> AngleUnitRead
     ensures { λ r. ⌜ r ≡ parseUnit (now (text .entry)) (at .0) ⌝ }
 {
     let i = at.0;
-    if stream::starts_with(text, at, b"deg") {
+    if bytes::starts_with(text, at, b"deg") {
         return AngleUnitRead::Found(AngleUnit::Degrees, Place(i + 3));
     }
-    if stream::starts_with(text, at, b"grad") {
+    if bytes::starts_with(text, at, b"grad") {
         return AngleUnitRead::Found(AngleUnit::Gradians, Place(i + 4));
     }
-    if stream::starts_with(text, at, b"rad") {
+    if bytes::starts_with(text, at, b"rad") {
         return AngleUnitRead::Found(AngleUnit::Radians, Place(i + 3));
     }
-    if stream::starts_with(text, at, b"turn") {
+    if bytes::starts_with(text, at, b"turn") {
         return AngleUnitRead::Found(AngleUnit::Turns, Place(i + 4));
     }
     AngleUnitRead::Missing

@@ -1,13 +1,5 @@
 pub mod Steps
 pub mod Digits
-pub mod Flat
-pub mod Naming
-pub mod Bounds
-pub mod Packing
-pub mod Alpha
-pub mod Told
-pub mod Shares
-pub mod Wholes
 pub mod Shifts
 pub mod Values
 pub mod Sames

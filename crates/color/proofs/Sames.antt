@@ -8,13 +8,13 @@ use borrow.Author.Tests.{lt-leb, eqb-true}
 use lib.Dec.{eqb, leb}
 use lib.Ieee.{Float}
 use lib.ListN.{length, getD}
-use Rattle.stream.specs.Bytes.{isSpace, isHexDigit, isAsciiIdent}
-use Rattle.stream.specs.Flow.{bind}
-use Rattle.stream.specs.Scan.{scan}
-use Rattle.stream.proofs.Ahead.{Ahead, ahead-back, ahead-inside, ahead-scan, getD-more, scan-more, end-more, part-more, hex-stop, word-stop}
-use Rattle.stream.proofs.Ranges.{either}
+use Rattle.bytes.specs.Bytes.{isSpace, isHexDigit, isAsciiIdent}
+use Rattle.bytes.specs.Flow.{bind}
+use Rattle.bytes.specs.Scan.{scan}
+use Rattle.bytes.proofs.Ahead.{Ahead, ahead-back, ahead-inside, ahead-scan, getD-more, scan-more, end-more, part-more, hex-stop, word-stop}
+use Rattle.bytes.proofs.Ranges.{either}
 use Rattle.stream.proofs.Sames.{sames, next-ahead, separator-more, separator-ahead}
-use Rattle.stream.proofs.Scans.{scan-ge}
+use Rattle.bytes.proofs.Scans.{scan-ge}
 use Rattle.numbers.proofs.Sames.{same-numbers}
 use Rattle.color.specs.Hex.{shortHex, hexPair, shortColor, longColor, parseHex}
 use Rattle.color.specs.Color.{afterNumber, closeBracket, parseAlpha, rgbMarked, rgbPlain, rgbRest, parseRgb, hslRest, parseHsl, parseWord, parseColor}

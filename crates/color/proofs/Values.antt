@@ -9,16 +9,16 @@ use borrow.Author.Tests.{leb-false}
 use lib.Dec.{T, eqb, leb}
 use lib.Ieee.{Float}
 use lib.ListN.{length, getD}
-use Rattle.stream.specs.Bytes.{within, isSpace, isHexDigit, isAsciiIdent}
-use Rattle.stream.specs.Faults.{place}
-use Rattle.stream.specs.Flow.{bind}
-use Rattle.stream.specs.Scan.{scan}
-use Rattle.stream.specs.Words.{same, part, lowerOf, isCurrByteEq}
+use Rattle.bytes.specs.Bytes.{within, isSpace, isHexDigit, isAsciiIdent}
+use Rattle.bytes.specs.Moves.{place}
+use Rattle.bytes.specs.Flow.{bind}
+use Rattle.bytes.specs.Scan.{scan}
+use Rattle.bytes.specs.Words.{same, part, lowerOf, isCurrByteEq}
 use Rattle.stream.specs.declared.Fault.{Fault}
-use Rattle.stream.specs.declared.Place.{Place}
-use Rattle.stream.proofs.Ranges.{either, le-or-lt}
+use Rattle.bytes.specs.declared.Place.{Place}
+use Rattle.bytes.proofs.Ranges.{either, le-or-lt}
 use Rattle.stream.proofs.Sames.{separator-pass, consume-all}
-use Rattle.stream.proofs.Scans.{scan-ge, scan-le}
+use Rattle.bytes.proofs.Scans.{scan-ge, scan-le}
 use Rattle.numbers.specs.Moves.{thenNumber}
 use Rattle.numbers.specs.Number.{parseListNumberOrPercent}
 use Rattle.numbers.specs.declared.Number.{Number}

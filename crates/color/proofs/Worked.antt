@@ -2,13 +2,13 @@
 use Prim.Native.Nat.{ℕ}
 use mathlib.Core.Path.{_≡_, refl}
 use lib.Ieee.{ofBits, ofInt, lt, le, add, sub, mul, div, rem, neg}
-use Rattle.stream.specs.Bytes.{within}
-use Rattle.stream.specs.Characters.{keeps, rowOf, lenAt, charLen, walk, utf8Of, firsts, count, calcCharPosAt}
+use Rattle.bytes.specs.Bytes.{within}
+use Rattle.utf8.specs.Characters.{keeps, rowOf, lenAt, charLen, walk, utf8Of, firsts, count, calcCharPosAt}
 use Rattle.stream.specs.Faults.{consumeByte, parseListSeparator}
-use Rattle.stream.specs.Flow.{bind}
+use Rattle.bytes.specs.Flow.{bind}
 use Rattle.stream.specs.Refusals.{numberOf, refusalOf, admitUtf8, admitText}
-use Rattle.stream.specs.Scan.{scan, run}
-use Rattle.stream.specs.Words.{ascii, same, lowerOf, part, isCurrByteEq}
+use Rattle.bytes.specs.Scan.{scan, run}
+use Rattle.bytes.specs.Words.{ascii, same, lowerOf, part, isCurrByteEq}
 use Rattle.floats.specs.Floats.{narrowed, channelOf}
 use Rattle.numbers.specs.Digits.{value}
 use Rattle.numbers.specs.Powers.{powerOf, powerBits}

@@ -5,12 +5,13 @@ use mathlib.Core.List.{List}
 use lib.Dec.{eqb, leb, ltb}
 use lib.Ieee.{Float, binary64, ofBits, mul, div}
 use lib.ListN.{length, getD}
-use Rattle.stream.specs.Bytes.{isSpace, isAsciiIdent}
-use Rattle.stream.specs.Faults.{place, unexpectedEnd, invalidValue, unexpectedData, consumeByte, parseListSeparator}
-use Rattle.stream.specs.Flow.{bind}
+use Rattle.bytes.specs.Bytes.{isSpace, isAsciiIdent}
+use Rattle.bytes.specs.Moves.{place}
+use Rattle.stream.specs.Faults.{unexpectedEnd, invalidValue, unexpectedData, consumeByte, parseListSeparator}
+use Rattle.bytes.specs.Flow.{bind}
 use Rattle.stream.specs.Moves.{thenConsumed}
-use Rattle.stream.specs.Scan.{scan}
-use Rattle.stream.specs.Words.{ascii, same, lowered, part, isCurrByteEq}
+use Rattle.bytes.specs.Scan.{scan}
+use Rattle.bytes.specs.Words.{ascii, same, lowered, part, isCurrByteEq}
 use Rattle.floats.specs.Floats.{channelOf}
 use Rattle.numbers.specs.Moves.{thenNumber}
 use Rattle.numbers.specs.Number.{parseNumber, parseListNumber, parseListNumberOrPercent}

@@ -4,10 +4,11 @@ use mathlib.Core.Bool.{cond}
 use mathlib.Core.List.{List}
 use lib.Dec.{eqb}
 use lib.ListN.{getD}
-use Rattle.stream.specs.Bytes.{within, isHexDigit}
-use Rattle.stream.specs.Faults.{place, invalidValue}
-use Rattle.stream.specs.Flow.{bind}
-use Rattle.stream.specs.Scan.{scan}
+use Rattle.bytes.specs.Bytes.{within, isHexDigit}
+use Rattle.bytes.specs.Moves.{place}
+use Rattle.stream.specs.Faults.{invalidValue}
+use Rattle.bytes.specs.Flow.{bind}
+use Rattle.bytes.specs.Scan.{scan}
 use Rattle.color.specs.declared.Color.{Color}
 use Rattle.color.specs.declared.ColorRead.{ColorRead}
 use Rattle.color.specs.declared.ColorRead.the-variants as C

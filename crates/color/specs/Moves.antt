@@ -1,7 +1,8 @@
 -- A colour's answer moved by n bytes, and going on with it.
 use Prim.Native.Nat.{ℕ}
-use Rattle.stream.specs.Moves.{movePlace, moveFault}
-use Rattle.stream.specs.declared.Place.{Place}
+use Rattle.bytes.specs.Moves.{movePlace}
+use Rattle.stream.specs.Moves.{moveFault}
+use Rattle.bytes.specs.declared.Place.{Place}
 use Rattle.stream.specs.declared.Fault.{Fault}
 use Rattle.color.specs.declared.Color.{Color}
 use Rattle.color.specs.declared.ColorRead.{ColorRead}

@@ -1,30 +1,19 @@
 // Colours: hex digits, `rgb` and `hsl` with their brackets, and names.
 ghost use mathlib.Core.Path.{_≡_};
-ghost use Prim.Native.Nat.{_≤_};
+ghost use Prim.Native.Nat.{_+_, _≤_};
 ghost use lib.ListN.{length};
+ghost use Rattle.color.specs.Hex.{fromHex, shortHex, hexPair, shortColor, longColor, parseHex};
 ghost use Rattle.color.specs.Hsl.{hueToRgb, hslToRgb, hslColor};
 ghost use Rattle.color.specs.Color.{afterNumber, closeBracket, parseAlpha, rgbMarked, rgbPlain, rgbRest, parseRgb, hslRest, parseHsl, isRgb, isHsl, namedColor, parseWord, parseColor, parseColorText};
 ghost use Rattle.color.specs.Answer.{fromStr};
+ghost use Rattle.color.specs.Paper.{paper};
+use bytes::Place;
+use names::Named;
 use numbers::NumberRead;
 use stream::Admission;
 use stream::Consumed;
 use stream::Fault;
-use stream::Place;
 use stream::Refusal;
-
-mod hex;
-mod packed;
-mod rgb;
-mod share;
-mod texts;
-
-pub use hex::NO_COLOR;
-pub use hex::hex_alone;
-pub use hex::unpacked;
-pub use packed::packed_color;
-pub use packed::packed_from_str;
-pub use packed::packed_refusal;
-pub use texts::whole;
 
 pub struct Color {
     pub red: u8,
@@ -39,35 +28,15 @@ pub enum ColorRead {
     Refused(Fault),
 }
 
-// A colour that is told at once: `end` is 0 where nothing is told.
-struct QuickColor {
-    red: u8,
-    green: u8,
-    blue: u8,
-    alpha: u8,
-    end: usize,
-}
-
 pub enum ColorAnswer {
     Value(Color),
     Refused(Refusal),
 }
 
-// A colour as a whole text, for a caller who has promised nothing of it. The slice is taken anew:
-// handed on whole it is copied by 16 bytes, which wait for the stores of its two halves.
+// A colour as a whole text, for a caller who has promised nothing of it.
 pub fn from_str(text: &[u8]) -> ColorAnswer
     ensures { λ r. ⌜ r ≡ fromStr (now (text .entry)) ⌝ }
-{
-    let v = whole(&text[0..]);
-    if v < NO_COLOR {
-        return ColorAnswer::Value(hex::unpacked(v));
-    }
-    from_any(text)
-}
-
-// A colour as a whole text, by what holds of any text; what is told at once was asked before.
-fn from_any(text: &[u8]) -> ColorAnswer
-    ensures { λ r. ⌜ r ≡ fromStr (now (text .entry)) ⌝ }
+    ensures { λ r. ⌜ paper r ≡ paper (fromStr (now (text .entry))) ⌝ }
 {
     match stream::admit_text(text) {
         Admission::Refused(refusal) => ColorAnswer::Refused(refusal),
@@ -86,7 +55,7 @@ pub fn parse_color_text(text: &[u8]) -> ColorRead
     match parse_color(text, Place(0)) {
         ColorRead::Refused(e) => ColorRead::Refused(e),
         ColorRead::Value(color, p) => {
-            let next = stream::skip_spaces(text, p);
+            let next = bytes::skip_spaces(text, p);
             let i = next.0;
             if i < text.len() {
                 return ColorRead::Refused(stream::unexpected_data(text, next));
@@ -101,33 +70,32 @@ pub fn parse_color(text: &[u8], at: Place) -> ColorRead
     requires { ⌜ length (now text) ≤ 4096 ⌝ }
     ensures { λ r. ⌜ r ≡ parseColor (now (text .entry)) (at .0) ⌝ }
 {
-    let start = stream::skip_spaces(text, at);
+    let start = bytes::skip_spaces(text, at);
     let i = start.0;
     if text.len() <= i {
         return ColorRead::Refused(stream::unexpected_end(text));
     }
     if text[i] == b'#' {
-        return hex::parse_hex(text, Place(i + 1));
-    }
-    if text[i] == b'r' {
-        let from = rgb::rgb_start(text, start);
-        if 0 < from {
-            let q = rgb::quick_rgb(&text[0..], from);
-            let end = q.end;
-            if 0 < end {
-                return ColorRead::Value(
-                    Color {
-                        red: q.red,
-                        green: q.green,
-                        blue: q.blue,
-                        alpha: q.alpha,
-                    },
-                    Place(end),
-                );
-            }
-        }
+        return parse_hex(text, Place(i + 1));
     }
     parse_word(text, start)
+}
+
+// The colour whose hex digits start at a place, the one after the `#`.
+fn parse_hex(text: &[u8], at: Place) -> ColorRead
+    requires { ⌜ at .0 ≤ length (now text) ⌝ }
+    ensures { λ r. ⌜ r ≡ parseHex (now (text .entry)) (at .0) ⌝ }
+{
+    let from = at.0;
+    let end = bytes::skip_hex_digits(text, at);
+    let to = end.0;
+    match to - from {
+        6 => ColorRead::Value(long_color(text, at, 255), end),
+        8 => ColorRead::Value(long_color(text, at, hex_pair(text, Place(from + 6))), end),
+        3 => ColorRead::Value(short_color(text, at, 255), end),
+        4 => ColorRead::Value(short_color(text, at, short_hex(text, Place(from + 3))), end),
+        _ => ColorRead::Refused(stream::invalid_value(end)),
+    }
 }
 
 // What a word begins: `rgb(`, `hsl(`, or a name alone.
@@ -137,7 +105,7 @@ fn parse_word(text: &[u8], at: Place) -> ColorRead
     ensures { λ r. ⌜ r ≡ parseWord (now (text .entry)) (at .0) ⌝ }
 {
     let from = at.0;
-    let end = stream::consume_ascii_ident(text, at);
+    let end = bytes::consume_ascii_ident(text, at);
     let to = end.0;
     if is_rgb(&text[from..to]) {
         return parse_rgb(text, end);
@@ -151,24 +119,40 @@ fn parse_word(text: &[u8], at: Place) -> ColorRead
 fn is_rgb(word: &[u8]) -> bool
     ensures { λ r. ⌜ r ≡ isRgb (now (word .entry)) ⌝ }
 {
-    stream::equals_lowered(word, b"rgb") | stream::equals_lowered(word, b"rgba")
+    bytes::equals_lowered(word, b"rgb") | bytes::equals_lowered(word, b"rgba")
 }
 
 fn is_hsl(word: &[u8]) -> bool
     ensures { λ r. ⌜ r ≡ isHsl (now (word .entry)) ⌝ }
 {
-    stream::equals_lowered(word, b"hsl") | stream::equals_lowered(word, b"hsla")
+    bytes::equals_lowered(word, b"hsl") | bytes::equals_lowered(word, b"hsla")
 }
 
 // The colour that a word names; the word's end is where reading goes on.
 fn named_color(word: &[u8], end: Place) -> ColorRead
     ensures { λ r. ⌜ r ≡ namedColor (now (word .entry)) (end .0) ⌝ }
 {
-    let v = names::from_str(word);
-    if v < NO_COLOR {
-        return ColorRead::Value(hex::unpacked(v), end);
+    match names::from_str(word) {
+        Named::Keyword(c) => ColorRead::Value(
+            Color {
+                red: c.red,
+                green: c.green,
+                blue: c.blue,
+                alpha: 255,
+            },
+            end,
+        ),
+        Named::Transparent => ColorRead::Value(
+            Color {
+                red: 0,
+                green: 0,
+                blue: 0,
+                alpha: 0,
+            },
+            end,
+        ),
+        Named::Unknown => ColorRead::Refused(stream::invalid_value(end)),
     }
-    ColorRead::Refused(stream::invalid_value(end))
 }
 
 // What follows `rgb` or `rgba`. The first number is no number of a list.
@@ -190,7 +174,7 @@ fn rgb_rest(text: &[u8], at: Place, first: f64) -> ColorRead
     requires { ⌜ length (now text) ≤ 4096 ⌝ }
     ensures { λ r. ⌜ r ≡ rgbRest (now (text .entry)) (at .0) first ⌝ }
 {
-    if stream::is_curr_byte_eq(text, at, b'%') {
+    if bytes::is_curr_byte_eq(text, at, b'%') {
         let i = at.0;
         return rgb_marked(text, after_number(text, Place(i + 1)), first);
     }
@@ -201,7 +185,7 @@ fn rgb_rest(text: &[u8], at: Place, first: f64) -> ColorRead
 fn after_number(text: &[u8], at: Place) -> Place
     ensures { λ r. ⌜ r .0 ≡ afterNumber (now (text .entry)) (at .0) ⌝ }
 {
-    stream::parse_list_separator(text, stream::skip_spaces(text, at))
+    stream::parse_list_separator(text, bytes::skip_spaces(text, at))
 }
 
 // Red is divided and multiplied apart, so that it rounds as green and blue do.
@@ -268,8 +252,8 @@ fn parse_alpha(text: &[u8], at: Place, color: Color) -> ColorRead
     requires { ⌜ length (now text) ≤ 4096 ⌝ }
     ensures { λ r. ⌜ r ≡ parseAlpha (now (text .entry)) (at .0) color ⌝ }
 {
-    let start = stream::skip_spaces(text, at);
-    if stream::is_curr_byte_eq(text, start, b')') {
+    let start = bytes::skip_spaces(text, at);
+    if bytes::is_curr_byte_eq(text, start, b')') {
         return close_bracket(text, start, color);
     }
     match numbers::parse_list_number(text, start) {
@@ -293,7 +277,7 @@ fn parse_alpha(text: &[u8], at: Place, color: Color) -> ColorRead
 fn close_bracket(text: &[u8], at: Place, color: Color) -> ColorRead
     ensures { λ r. ⌜ r ≡ closeBracket (now (text .entry)) (at .0) color ⌝ }
 {
-    let next = stream::skip_spaces(text, at);
+    let next = bytes::skip_spaces(text, at);
     match stream::consume_byte(text, next, b')') {
         Consumed::Refused(e) => ColorRead::Refused(e),
         Consumed::Next(p) => ColorRead::Value(color, p),
@@ -325,6 +309,62 @@ fn hsl_rest(text: &[u8], at: Place, hue: f64) -> ColorRead
             NumberRead::Refused(e) => ColorRead::Refused(e),
             NumberRead::Value(l, q) => parse_alpha(text, q, hsl_color(hue, s.value, l.value)),
         },
+    }
+}
+
+// The value of a hex digit, 0 for another byte.
+fn from_hex(c: u8) -> u8
+    ensures { λ r. ⌜ r ≡ fromHex c ⌝ }
+    ensures { λ r. ⌜ r ≤ 15 ⌝ }
+{
+    match c {
+        b'0'..=b'9' => c - b'0',
+        b'a'..=b'f' => c - b'a' + 10,
+        b'A'..=b'F' => c - b'A' + 10,
+        _ => 0,
+    }
+}
+
+// A channel of one digit, doubled.
+fn short_hex(text: &[u8], at: Place) -> u8
+    ensures { λ r. ⌜ r ≡ shortHex (now (text .entry)) (at .0) ⌝ }
+{
+    let h = from_hex(bytes::byte_at(text, at.0));
+    h * 16 + h
+}
+
+// A channel of two digits.
+fn hex_pair(text: &[u8], at: Place) -> u8
+    requires { ⌜ at .0 ≤ length (now text) ⌝ }
+    ensures { λ r. ⌜ r ≡ hexPair (now (text .entry)) (at .0) ⌝ }
+{
+    let i = at.0;
+    from_hex(bytes::byte_at(text, i)) * 16 + from_hex(bytes::byte_at(text, i + 1))
+}
+
+fn short_color(text: &[u8], at: Place, alpha: u8) -> Color
+    requires { ⌜ at .0 ≤ length (now text) ⌝ }
+    ensures { λ r. ⌜ r ≡ shortColor (now (text .entry)) (at .0) alpha ⌝ }
+{
+    let i = at.0;
+    Color {
+        red: short_hex(text, at),
+        green: short_hex(text, Place(i + 1)),
+        blue: short_hex(text, Place(i + 2)),
+        alpha,
+    }
+}
+
+fn long_color(text: &[u8], at: Place, alpha: u8) -> Color
+    requires { ⌜ at .0 + 4 ≤ length (now text) ⌝ }
+    ensures { λ r. ⌜ r ≡ longColor (now (text .entry)) (at .0) alpha ⌝ }
+{
+    let i = at.0;
+    Color {
+        red: hex_pair(text, at),
+        green: hex_pair(text, Place(i + 2)),
+        blue: hex_pair(text, Place(i + 4)),
+        alpha,
     }
 }
 

@@ -1,14 +1,14 @@
--- The marked examples, computed from the definitions.
+-- The marked examples, and those of wrong answers, computed from the definitions.
 use mathlib.Core.Path.{refl}
 use lib.Ieee.{ofBits, ofInt, lt, le, eq, add, sub, mul, div, rem, neg}
-use Rattle.stream.specs.Blanks.{blank1, blank2, blank3, blankLen, blankAt, byteBefore, blankEnd, blankBefore, front, trimStart, back, trimEnd, trimOf}
-use Rattle.stream.specs.Bytes.{within}
-use Rattle.stream.specs.Characters.{keeps, rowOf, lenAt, charLen, walk, utf8Of, firsts, count, calcCharPosAt, onCharacter}
+use Rattle.utf8.specs.Blanks.{blank1, blank2, blank3, blankLen, blankAt, byteBefore, blankEnd, blankBefore, front, trimStart, back, trimEnd, trimOf}
+use Rattle.bytes.specs.Bytes.{within}
+use Rattle.utf8.specs.Characters.{keeps, rowOf, lenAt, charLen, walk, utf8Of, firsts, count, calcCharPosAt, onCharacter}
 use Rattle.stream.specs.Faults.{consumeByte, consumeString, parseListSeparator}
-use Rattle.stream.specs.Flow.{bind}
+use Rattle.bytes.specs.Flow.{bind}
 use Rattle.stream.specs.Refusals.{numberOf, refusalOf, isOutsideDomain, admitUtf8, admitText, admitPlace}
-use Rattle.stream.specs.Scan.{scan, run}
-use Rattle.stream.specs.Words.{same, startsWith, lowerOf, part, isCurrByteEq}
+use Rattle.bytes.specs.Scan.{scan, run}
+use Rattle.bytes.specs.Words.{same, startsWith, lowerOf, part, isCurrByteEq}
 use Rattle.floats.specs.Floats.{narrowed, channelOf}
 use Rattle.numbers.specs.Digits.{value}
 use Rattle.numbers.specs.Powers.{powerOf, powerBits}
@@ -27,13 +27,15 @@ use Rattle.paint.specs.Answers as paints
 use Rattle.paint.specs.Moves.{linkStart, movePaint}
 use Rattle.paint.specs.Reading.{parsePaint, parseLinked, parseFallback, parsePlain}
 use Rattle.filter_functions.specs.Filters as filters
-use Rattle.filter_functions.specs.Filters.{nextFilter, parseStep, afterNone, parseNext, parseArgument, filterName, plainName}
+use Rattle.filter_functions.specs.Filters.{nextFilter, stepOf, parseStep, afterNone, parseNext, parseArgument, filterName, plainName}
 use Rattle.filter_functions.specs.Values.{isPercent, parseFilterLength, parseFilterPositiveLength, parseFilterAngle, parseBlur, parseHueRotate}
 use Rattle.filter_functions.specs.Shadow.{tryParseColor, parseDeviation, parseShadowLengths, shadowBefore, shadowAfter, parseDropShadowFunc}
+use Rattle.funciri.specs.Answers.{wholeLink, funcIriFromStr}
 use Rattle.examples.specs.Examples.{Examples}
+use Rattle.examples.specs.Shut.{Shut}
 
 pub examples : Examples
-unfolding colors.fromStr hasQuote isLink closeLink closeQuote quotedLink plainLink parseFuncIri paints.fromStr lengths.fromStr nextFilter admitPlace onCharacter admitText admitUtf8 utf8Of walk charLen lenAt rowOf keeps within refusalOf numberOf isOutsideDomain calcCharPosAt count firsts trimOf trimStart front trimEnd back blankAt blankLen blankBefore blankEnd byteBefore blank1 blank2 blank3 parsePaint parseLinked parseFallback parsePlain movePaint linkStart parseWhole parseLength unitAt unitRest unitWidth parseUnit parseStep afterNone parseNext parseArgument filterName plainName filters.closeBracket isPercent parseFilterLength parseFilterPositiveLength parseFilterAngle parseBlur parseHueRotate tryParseColor parseDeviation parseShadowLengths shadowBefore shadowAfter parseDropShadowFunc parseColorText parseColor parseHex longColor shortColor hexPair shortHex fromHex parseWord part same startsWith lowerOf isRgb isHsl namedColor namedOf lookUp keywords parseRgb parseHsl hslRest rgbRest rgbMarked rgbPlain afterNumber parseAlpha closeBracket consumeByte consumeString hslColor hslToRgb hueToRgb narrowed channelOf parseNumber parseNumberOrPercent parseListNumber parseListNumberOrPercent afterItem parseListSeparator numberFrom finished scaled valueOf scaleOf exponentAt exponentFrom mantissaAt mantissaDot afterSign value scan run bind isCurrByteEq powerOf powerBits mul div add sub rem neg lt le eq ofInt ofBits
+unfolding colors.fromStr hasQuote isLink closeLink closeQuote quotedLink plainLink parseFuncIri paints.fromStr lengths.fromStr nextFilter stepOf admitPlace onCharacter admitText admitUtf8 utf8Of walk charLen lenAt rowOf keeps within refusalOf numberOf isOutsideDomain calcCharPosAt count firsts trimOf trimStart front trimEnd back blankAt blankLen blankBefore blankEnd byteBefore blank1 blank2 blank3 parsePaint parseLinked parseFallback parsePlain movePaint linkStart parseWhole parseLength unitAt unitRest unitWidth parseUnit parseStep afterNone parseNext parseArgument filterName plainName filters.closeBracket isPercent parseFilterLength parseFilterPositiveLength parseFilterAngle parseBlur parseHueRotate tryParseColor parseDeviation parseShadowLengths shadowBefore shadowAfter parseDropShadowFunc parseColorText parseColor parseHex longColor shortColor hexPair shortHex fromHex parseWord part same startsWith lowerOf isRgb isHsl namedColor namedOf lookUp keywords parseRgb parseHsl hslRest rgbRest rgbMarked rgbPlain afterNumber parseAlpha closeBracket consumeByte consumeString hslColor hslToRgb hueToRgb narrowed channelOf parseNumber parseNumberOrPercent parseListNumber parseListNumberOrPercent afterItem parseListSeparator numberFrom finished scaled valueOf scaleOf exponentAt exponentFrom mantissaAt mantissaDot afterSign value scan run bind isCurrByteEq powerOf powerBits mul div add sub rem neg lt le eq ofInt ofBits
 examples =
     record {
       four-digits = refl;
@@ -51,3 +53,7 @@ examples =
       value-then-none = refl;
       none-then-end = refl;
     }
+
+pub shut : Shut
+unfolding colors.fromStr hasQuote isLink closeLink closeQuote quotedLink plainLink parseFuncIri paints.fromStr lengths.fromStr nextFilter stepOf admitPlace onCharacter admitText admitUtf8 utf8Of walk charLen lenAt rowOf keeps within refusalOf numberOf isOutsideDomain calcCharPosAt count firsts trimOf trimStart front trimEnd back blankAt blankLen blankBefore blankEnd byteBefore blank1 blank2 blank3 parsePaint parseLinked parseFallback parsePlain movePaint linkStart parseWhole parseLength unitAt unitRest unitWidth parseUnit parseStep afterNone parseNext parseArgument filterName plainName filters.closeBracket isPercent parseFilterLength parseFilterPositiveLength parseFilterAngle parseBlur parseHueRotate tryParseColor parseDeviation parseShadowLengths shadowBefore shadowAfter parseDropShadowFunc parseColorText parseColor parseHex longColor shortColor hexPair shortHex fromHex parseWord part same startsWith lowerOf isRgb isHsl namedColor namedOf lookUp keywords parseRgb parseHsl hslRest rgbRest rgbMarked rgbPlain afterNumber parseAlpha closeBracket consumeByte consumeString hslColor hslToRgb hueToRgb narrowed channelOf parseNumber parseNumberOrPercent parseListNumber parseListNumberOrPercent afterItem parseListSeparator numberFrom finished scaled valueOf scaleOf exponentAt exponentFrom mantissaAt mantissaDot afterSign value scan run bind isCurrByteEq powerOf powerBits mul div add sub rem neg lt le eq ofInt ofBits funcIriFromStr wholeLink
+shut = record { alpha = refl; hue = refl; quoted = refl; stray = refl; trimmed = refl; painted = refl; shaded = refl }

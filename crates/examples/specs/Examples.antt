@@ -2,8 +2,8 @@
 use Prim.Native.Nat.{ℕ}
 use mathlib.Core.Path.{_≡_}
 use lib.Ieee.{Float, binary64, ofBits}
-use Rattle.stream.specs.Faults.{place}
-use Rattle.stream.specs.Words.{ascii}
+use Rattle.bytes.specs.Moves.{place}
+use Rattle.bytes.specs.Words.{ascii}
 use Rattle.stream.specs.declared.Refusal.{Refusal}
 use Rattle.length.specs.Lengths as lengths
 use Rattle.length.specs.Paper.{zeroLength}

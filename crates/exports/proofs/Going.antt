@@ -9,11 +9,8 @@ use borrow.Author.Tests.{eq-eqb, ne-eqb}
 use lib.Dec.{eqb}
 use lib.ListN.{length, take, drop, getD, length-append}
 use lib.Seq.{paste, take-at, drop-append-add, drop-drop, take-all}
-use Rattle.length.specs.Lengths.{nextLength}
-use Rattle.length.specs.declared.LengthStep.{LengthStep}
-use Rattle.exports.specs.Many.{upTo, fitting, flat, filled, lastPlace, toldOf, lengthAt}
-use Rattle.exports.specs.Records.{lengthStepRecord}
-use Rattle.exports.proofs.Entries.{record-same, record-get}
+use Rattle.exports.specs.Many.{upTo, fitting, flat, filled, lastPlace, toldOf}
+use Rattle.records.proofs.Stores.{record-same, record-get}
 
 -- one record more
 abbrev behind : List (List ℕ) → List ℕ → List (List ℕ)
@@ -112,5 +109,5 @@ module _ {step : ℕ → List ℕ} {i₀ : ℕ} {o₀ : List ℕ} {n i : ℕ} {o
         (rw e next-list, rw (next-entry 8 (omega arith), e, next-count, last-behind i₀ (h .records) (step i)))
 
 -- the record of a step is written, by what two calls answered: x the step, p the entries
-pub length-at : {p : List ℕ} (s : List ℕ) (i : ℕ) (o : List ℕ) (k : ℕ) {x : LengthStep} → p ≡ paste o k (lengthStepRecord x) 24 → x ≡ nextLength s i → p ≡ paste o k (lengthAt s i) 24
-length-at s i o k w e = rw (← e) w
+pub written-at : {A : Type 0} (f : A → List ℕ) {p : List ℕ} (o : List ℕ) (k : ℕ) {x y : A} → p ≡ paste o k (f x) 24 → x ≡ y → p ≡ paste o k (f y) 24
+written-at f o k w e = rw (← e) w

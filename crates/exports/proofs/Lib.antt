@@ -1,9 +1,3 @@
-pub mod Steps
-pub mod Papers
-pub mod Entries
-pub mod Wholes
-pub mod Inherited
-pub mod Shadows
 pub mod Going
 pub mod Single
-pub mod AtOnce
+pub mod Packed

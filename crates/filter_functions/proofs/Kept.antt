@@ -6,20 +6,21 @@ use native.Mathlib.Omega.{arith}
 use borrow.Author.Tests.{eqb-true}
 use lib.Dec.{leb}
 use lib.ListN.{length, drop}
-use Rattle.stream.specs.Bytes.{isSpace, isAsciiIdent}
-use Rattle.stream.specs.Faults.{place, consumeByte}
-use Rattle.stream.specs.Flow.{bind}
+use Rattle.bytes.specs.Bytes.{isSpace, isAsciiIdent}
+use Rattle.bytes.specs.Moves.{place}
+use Rattle.stream.specs.Faults.{consumeByte}
+use Rattle.bytes.specs.Flow.{bind}
 use Rattle.stream.specs.Moves.{thenConsumed}
-use Rattle.stream.specs.Scan.{scan}
-use Rattle.stream.specs.Words.{ascii, startsWith, isCurrByteEq, part}
+use Rattle.bytes.specs.Scan.{scan}
+use Rattle.bytes.specs.Words.{ascii, startsWith, isCurrByteEq, part}
 use Rattle.stream.specs.declared.Consumed.{Consumed}
 use Rattle.stream.specs.declared.Consumed.the-variants as K
 use Rattle.stream.specs.declared.Fault.{Fault}
-use Rattle.stream.specs.declared.Place.{Place}
-use Rattle.stream.proofs.Ahead.{Ahead, ahead-back, ahead-scan, scan-more, starts-more, end-more, part-more, word-stop, scan-through, scan-seam}
-use Rattle.stream.proofs.Ranges.{either}
+use Rattle.bytes.specs.declared.Place.{Place}
+use Rattle.bytes.proofs.Ahead.{Ahead, ahead-back, ahead-scan, scan-more, starts-more, end-more, part-more, word-stop, scan-through, scan-seam}
+use Rattle.bytes.proofs.Ranges.{either}
 use Rattle.stream.proofs.Sames.{curr-more, consume-more, consume-took}
-use Rattle.stream.proofs.Scans.{scan-ge}
+use Rattle.bytes.proofs.Scans.{scan-ge}
 use Rattle.filter_functions.specs.Moves.{thenFilter, thenTried}
 use Rattle.filter_functions.specs.Shadow.{tryParseColor, shadowAfter, shadowBefore, parseDropShadowFunc}
 use Rattle.filter_functions.specs.Filters.{filterName, argumentOf, parseArgument, closeBracket, parseNext, afterNone, parseStep}

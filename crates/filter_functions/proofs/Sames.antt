@@ -3,14 +3,14 @@ use Prim.Native.Nat.{ℕ}
 use mathlib.Core.Bool.{_||_}
 use mathlib.Core.List.{List, _++_}
 use mathlib.Core.Path.{_≡_, refl}
-use Rattle.stream.specs.Bytes.{isSpace}
-use Rattle.stream.specs.Flow.{bind}
+use Rattle.bytes.specs.Bytes.{isSpace}
+use Rattle.bytes.specs.Flow.{bind}
 use Rattle.stream.specs.Refusals.{isOutsideDomain}
-use Rattle.stream.specs.Scan.{scan}
+use Rattle.bytes.specs.Scan.{scan}
 use Rattle.stream.specs.declared.Fault.{Fault}
-use Rattle.stream.specs.declared.Place.{Place}
-use Rattle.stream.proofs.Ahead.{Ahead, Passes, ahead-pass, pass-here, pass-trans, pass-scan, starts-more}
-use Rattle.stream.proofs.Ranges.{either}
+use Rattle.bytes.specs.declared.Place.{Place}
+use Rattle.bytes.proofs.Ahead.{Ahead, Passes, ahead-pass, pass-here, pass-trans, pass-scan, starts-more}
+use Rattle.bytes.proofs.Ranges.{either}
 use Rattle.stream.proofs.Sames.{sames, curr-more}
 use Rattle.floats.specs.Floats.{signOf}
 use Rattle.numbers.specs.declared.Number.{Number}

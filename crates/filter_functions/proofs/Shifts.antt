@@ -4,12 +4,14 @@ use mathlib.Core.List.{List, _++_}
 use mathlib.Core.Path.{_≡_, refl}
 use lib.Ieee.{Float}
 use lib.ListN.{length}
-use Rattle.stream.specs.Flow.{bind}
-use Rattle.stream.specs.Moves.{movePlace, moveFault}
+use Rattle.bytes.specs.Flow.{bind}
+use Rattle.bytes.specs.Moves.{movePlace}
+use Rattle.stream.specs.Moves.{moveFault}
 use Rattle.stream.specs.Refusals.{isOutsideDomain}
 use Rattle.stream.specs.declared.Fault.{Fault}
-use Rattle.stream.specs.declared.Place.{Place}
-use Rattle.stream.proofs.Shifts.{shifts, cond-push, curr-shift, part-shift, byte-shift, consumed-move, consumed-push}
+use Rattle.bytes.specs.declared.Place.{Place}
+use Rattle.bytes.proofs.Shifts.{shifts, cond-push, curr-shift, part-shift}
+use Rattle.stream.proofs.Shifts.{byte-shift, consumed-move, consumed-push}
 use Rattle.numbers.proofs.Shifts.{number-shifts, number-push}
 use Rattle.length.specs.Moves.{moveLengthRead}
 use Rattle.length.specs.declared.Length.{Length}

@@ -4,7 +4,7 @@ use mathlib.Core.Bool.{Bool, true, false, _||_, cond}
 use mathlib.Core.List.{List}
 use mathlib.Core.Path.{_≡_}
 use Rattle.stream.specs.Faults.{unexpectedData}
-use Rattle.stream.specs.declared.Place.{Place}
+use Rattle.bytes.specs.declared.Place.{Place}
 use Rattle.stream.specs.declared.Fault.{Fault}
 use Rattle.stream.specs.declared.Refusal.{Refusal}
 use Rattle.length.specs.declared.Length.{Length}

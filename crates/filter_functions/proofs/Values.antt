@@ -8,19 +8,19 @@ use borrow.Author.Tests.{leb-true, leb-false, eqb-true}
 use lib.Dec.{T, leb, leb→le}
 use lib.Ieee.{eq}
 use lib.ListN.{length, getD, drop, length-take}
-use Rattle.stream.specs.Bytes.{isSpace, isAsciiIdent, isUrlByte}
-use Rattle.stream.specs.Faults.{place}
-use Rattle.stream.specs.Flow.{bind}
+use Rattle.bytes.specs.Bytes.{isSpace, isAsciiIdent, isUrlByte}
+use Rattle.bytes.specs.Moves.{place}
+use Rattle.bytes.specs.Flow.{bind}
 use Rattle.stream.specs.Refusals.{isOutsideDomain}
-use Rattle.stream.specs.Scan.{scan}
-use Rattle.stream.specs.Words.{ascii, same, startsWith, part, isCurrByteEq}
+use Rattle.bytes.specs.Scan.{scan}
+use Rattle.bytes.specs.Words.{ascii, same, startsWith, part, isCurrByteEq}
 use Rattle.stream.specs.declared.Fault.{Fault}
-use Rattle.stream.specs.declared.Place.{Place}
-use Rattle.stream.proofs.Ahead.{scan-again}
-use Rattle.stream.proofs.Ranges.{either}
+use Rattle.bytes.specs.declared.Place.{Place}
+use Rattle.bytes.proofs.Ahead.{scan-again}
+use Rattle.bytes.proofs.Ranges.{either}
 use Rattle.stream.proofs.Sames.{consume-all}
-use Rattle.stream.proofs.Scans.{scan-ge, scan-le}
-use Rattle.stream.proofs.Wording.{same-eq}
+use Rattle.bytes.proofs.Scans.{scan-ge, scan-le}
+use Rattle.bytes.proofs.Wording.{same-eq}
 use Rattle.floats.specs.Floats.{d0, signOf}
 use Rattle.numbers.proofs.Values.{number-all, percent-all}
 use Rattle.length.specs.declared.Length.{Length}

@@ -1,16 +1,17 @@
 -- One step of a filter list. Quotations are of document 01.
 use Prim.Native.Nat.{ℕ, _+_}
 use mathlib.Core.Bool.{cond}
-use mathlib.Core.List.{List, []}
+use mathlib.Core.List.{List}
 use lib.Dec.{leb}
 use lib.ListN.{length, drop}
-use Rattle.stream.specs.Bytes.{isSpace, isAsciiIdent}
-use Rattle.stream.specs.Faults.{place, invalidValue, unexpectedData, consumeByte}
-use Rattle.stream.specs.Flow.{bind}
+use Rattle.bytes.specs.Bytes.{isSpace, isAsciiIdent}
+use Rattle.bytes.specs.Moves.{place}
+use Rattle.stream.specs.Faults.{invalidValue, unexpectedData, consumeByte}
+use Rattle.bytes.specs.Flow.{bind}
 use Rattle.stream.specs.Moves.{thenConsumed}
 use Rattle.stream.specs.Refusals.{refusalOf, admitPlace, thenAdmitted}
-use Rattle.stream.specs.Scan.{scan}
-use Rattle.stream.specs.Words.{ascii, same, startsWith, part}
+use Rattle.bytes.specs.Scan.{scan}
+use Rattle.bytes.specs.Words.{ascii, same, startsWith, part}
 use Rattle.filter_functions.specs.Moves.{thenFilter, thenStep}
 use Rattle.filter_functions.specs.Values.{parseBlur, parseHueRotate, parseGenericColorFunc, parseUrl}
 use Rattle.filter_functions.specs.Shadow.{parseDropShadowFunc}
@@ -21,8 +22,6 @@ use Rattle.filter_functions.specs.declared.FilterRead.the-variants as F
 use Rattle.filter_functions.specs.declared.FilterStep.{FilterStep}
 use Rattle.filter_functions.specs.declared.FilterStep.the-variants as O
 use Rattle.filter_functions.specs.declared.FilterValue.{FilterValue}
-use Rattle.filter_functions.specs.declared.NameRead.{NameRead}
-use Rattle.filter_functions.specs.declared.NameRead.the-variants as M
 use Rattle.filter_functions.specs.declared.Plain.the-variants as P
 use Rattle.filter_functions.specs.declared.StepRead.{StepRead}
 use Rattle.filter_functions.specs.declared.StepRead.the-variants as S
@@ -45,29 +44,6 @@ filterName w =
     (cond (same w (ascii "drop-shadow")) N.DropShadow
     (cond (same w (ascii "hue-rotate")) N.HueRotate
     (cond (same w (ascii "url")) N.Url (plainName w))))
-
--- a name's bytes and its bracket; of an unknown one nothing is known. Only contracts inside the crate speak of it
-abbrev pub opened : FilterName → List ℕ
-opened N.Blur = ascii "blur("
-opened N.DropShadow = ascii "drop-shadow("
-opened N.HueRotate = ascii "hue-rotate("
-opened (N.Plain P.Brightness) = ascii "brightness("
-opened (N.Plain P.Contrast) = ascii "contrast("
-opened (N.Plain P.Grayscale) = ascii "grayscale("
-opened (N.Plain P.Invert) = ascii "invert("
-opened (N.Plain P.Opacity) = ascii "opacity("
-opened (N.Plain P.Saturate) = ascii "saturate("
-opened (N.Plain P.Sepia) = ascii "sepia("
-opened N.Url = ascii "url("
-opened N.Unknown = []
-
--- a word, spaces, `(` (40): the beginning of `parseNext`. Only a contract inside the crate speaks of it
-unfoldable pub parseName : List ℕ → ℕ → NameRead
-parseName s start =
-    bind (scan isAsciiIdent s start) (λ end.
-    bind (scan isSpace s end) (λ left.
-    thenConsumed M.Refused (consumeByte s left 40) (λ p.
-    bind (filterName (part s start end)) (λ f. M.Named f p))))
 
 -- what the brackets of a function hold; 6 for an unknown name
 abbrev pub argumentOf : FilterName → List ℕ → ℕ → ℕ → FilterRead
@@ -106,8 +82,14 @@ parseStep s at =
     (cond (startsWith (ascii "none") (drop start s)) (afterNone s (start + 4))
     (thenFilter S.Refused (parseNext s start) (λ v p. bind (scan isSpace s (p .0)) (λ i. S.Value v (place i))))))
 
--- "A list step refused by 1 to 3 gives its list place back as it came; refused by 4 to 15, or with nothing left, it gives the end of the text."
+-- "refused by 4 to 15, or with nothing left, it gives the end of the text"
+abbrev pub edged : List ℕ → StepRead → FilterStep
+edged s x = thenStep (λ e. O.Refused (refusalOf s e) (place (length s))) (O.End (place (length s))) (O.NoneWord (place (length s))) x (λ v p. O.Value v p)
+
+-- a step from a place that is admitted
+unfoldable pub stepOf : List ℕ → ℕ → FilterStep
+stepOf s i = edged s (parseStep s i)
+
+-- "A list step refused by 1 to 3 gives its list place back as it came"
 unfoldable pub nextFilter : List ℕ → ℕ → FilterStep
-nextFilter s i =
-    thenAdmitted (λ e. O.Refused e (place i)) (admitPlace s i)
-    (thenStep (λ e. O.Refused (refusalOf s e) (place (length s))) (O.End (place (length s))) (O.NoneWord (place (length s))) (parseStep s i) (λ v p. O.Value v p))
+nextFilter s i = thenAdmitted (λ e. O.Refused e (place i)) (admitPlace s i) (stepOf s i)

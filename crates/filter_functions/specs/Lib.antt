@@ -3,4 +3,3 @@ pub mod Values
 pub mod Shadow
 pub mod Filters
 pub mod Paper
-pub mod Quick

@@ -1,7 +1,8 @@
 -- A filter's answers moved by n bytes, and going on with them.
 use Prim.Native.Nat.{ℕ}
-use Rattle.stream.specs.Moves.{movePlace, movePart, moveFault}
-use Rattle.stream.specs.declared.Place.{Place}
+use Rattle.bytes.specs.Moves.{movePlace, movePart}
+use Rattle.stream.specs.Moves.{moveFault}
+use Rattle.bytes.specs.declared.Place.{Place}
 use Rattle.stream.specs.declared.Fault.{Fault}
 use Rattle.length.specs.declared.Length.{Length}
 use Rattle.filter_functions.specs.declared.FilterValue.{FilterValue}

@@ -3,8 +3,8 @@ use Prim.Native.Nat.{ℕ}
 use mathlib.Core.Bool.{Bool, true, false}
 use lib.Ieee.{Float}
 use Rattle.stream.specs.Refusals.{bareRefusal}
-use Rattle.stream.specs.declared.Part.{Part}
-use Rattle.stream.specs.declared.Place.{Place}
+use Rattle.bytes.specs.declared.Part.{Part}
+use Rattle.bytes.specs.declared.Place.{Place}
 use Rattle.stream.specs.declared.Refusal.{Refusal}
 use Rattle.floats.specs.Floats.{d0}
 use Rattle.length.specs.Paper.{zeroLength}

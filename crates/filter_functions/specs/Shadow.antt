@@ -3,12 +3,13 @@ use Prim.Native.Nat.{ℕ, _+_}
 use mathlib.Core.Bool.{_||_, cond}
 use mathlib.Core.List.{List}
 use lib.ListN.{drop}
-use Rattle.stream.specs.Bytes.{isSpace}
-use Rattle.stream.specs.Faults.{place, troubleAt}
-use Rattle.stream.specs.Flow.{bind}
+use Rattle.bytes.specs.Bytes.{isSpace}
+use Rattle.bytes.specs.Moves.{place}
+use Rattle.stream.specs.Faults.{troubleAt}
+use Rattle.bytes.specs.Flow.{bind}
 use Rattle.stream.specs.Refusals.{isOutsideDomain}
-use Rattle.stream.specs.Scan.{scan}
-use Rattle.stream.specs.Words.{ascii, startsWith, isCurrByteEq}
+use Rattle.bytes.specs.Scan.{scan}
+use Rattle.bytes.specs.Words.{ascii, startsWith, isCurrByteEq}
 use Rattle.stream.specs.declared.Trouble.the-variants as T
 use Rattle.floats.specs.Floats.{signOf}
 use Rattle.length.specs.Lengths.{parseLength}

@@ -5,12 +5,13 @@ use mathlib.Core.Bool.{Bool, true, false, cond}
 use mathlib.Core.List.{List}
 use lib.Dec.{leb}
 use lib.Ieee.{Float, eq}
-use Rattle.stream.specs.Bytes.{isSpace, isUrlByte}
-use Rattle.stream.specs.Faults.{place, troubleAt, consumeByte}
-use Rattle.stream.specs.Flow.{bind}
+use Rattle.bytes.specs.Bytes.{isSpace, isUrlByte}
+use Rattle.bytes.specs.Moves.{place}
+use Rattle.stream.specs.Faults.{troubleAt, consumeByte}
+use Rattle.bytes.specs.Flow.{bind}
 use Rattle.stream.specs.Moves.{thenConsumed}
-use Rattle.stream.specs.Scan.{scan}
-use Rattle.stream.specs.Words.{isCurrByteEq}
+use Rattle.bytes.specs.Scan.{scan}
+use Rattle.bytes.specs.Words.{isCurrByteEq}
 use Rattle.stream.specs.declared.Trouble.the-variants as T
 use Rattle.floats.specs.Floats.{d0, d1, signOf}
 use Rattle.numbers.specs.Moves.{thenNumber}

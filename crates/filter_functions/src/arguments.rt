@@ -11,20 +11,20 @@ use angle::Angle;
 use angle::AngleRead;
 use angle::AngleUnit;
 use angle::AngleUnitRead;
+use bytes::Part;
+use bytes::Place;
 use length::Length;
 use length::LengthRead;
 use length::LengthUnit;
 use numbers::NumberRead;
 use stream::Consumed;
-use stream::Part;
-use stream::Place;
 use stream::Trouble;
 
 pub fn parse_blur(text: &[u8], name: Place, at: Place) -> FilterRead
     requires { ⌜ length (now text) ≤ 4096 ⌝ }
     ensures { λ r. ⌜ r ≡ parseBlur (now (text .entry)) (name .0) (at .0) ⌝ }
 {
-    if stream::is_curr_byte_eq(text, at, b')') {
+    if bytes::is_curr_byte_eq(text, at, b')') {
         return FilterRead::Value(FilterValue::Blur(zero_length()), at);
     }
     match parse_filter_positive_length(text, name, at) {
@@ -37,7 +37,7 @@ pub fn parse_hue_rotate(text: &[u8], name: Place, at: Place) -> FilterRead
     requires { ⌜ length (now text) ≤ 4096 ⌝ }
     ensures { λ r. ⌜ r ≡ parseHueRotate (now (text .entry)) (name .0) (at .0) ⌝ }
 {
-    if stream::is_curr_byte_eq(text, at, b')') {
+    if bytes::is_curr_byte_eq(text, at, b')') {
         let number = 0.0;
         let unit = AngleUnit::Degrees;
         return FilterRead::Value(FilterValue::HueRotate(Angle { number, unit }), at);
@@ -55,7 +55,7 @@ pub fn parse_url(text: &[u8], name: Place, at: Place) -> FilterRead
     match stream::consume_byte(text, at, b'#') {
         Consumed::Refused(e) => FilterRead::Refused(e),
         Consumed::Next(start) => {
-            let end = stream::skip_to_space_or_bracket(text, start);
+            let end = bytes::skip_to_space_or_bracket(text, start);
             let from = start.0;
             let to = end.0;
             if to <= from {
@@ -77,7 +77,7 @@ pub fn parse_generic_color_func(text: &[u8], name: Place, at: Place, plain: Plai
     requires { ⌜ length (now text) ≤ 4096 ⌝ }
     ensures { λ r. ⌜ r ≡ parseGenericColorFunc (now (text .entry)) (name .0) (at .0) plain ⌝ }
 {
-    if stream::is_curr_byte_eq(text, at, b')') {
+    if bytes::is_curr_byte_eq(text, at, b')') {
         return FilterRead::Value(plain_value(plain, 1.0), at);
     }
     match numbers::parse_number_or_percent(text, at) {
@@ -141,9 +141,7 @@ pub fn parse_filter_length(text: &[u8], name: Place, at: Place) -> LengthRead
                     p,
                 ));
             }
-            // Field by field: a length copied whole would wait for the narrower stores of its fields.
-            let number = l.number;
-            LengthRead::Value(Length { number, unit }, n, p)
+            LengthRead::Value(l, n, p)
         }
     }
 }
@@ -168,8 +166,7 @@ fn parse_filter_positive_length(text: &[u8], name: Place, at: Place) -> LengthRe
                     p,
                 ));
             }
-            let number = l.number;
-            LengthRead::Value(Length { number, unit }, n, p)
+            LengthRead::Value(l, n, p)
         }
     }
 }
@@ -179,8 +176,8 @@ fn parse_filter_angle(text: &[u8], name: Place, at: Place) -> AngleRead
     requires { ⌜ length (now text) ≤ 4096 ⌝ }
     ensures { λ r. ⌜ r ≡ parseFilterAngle (now (text .entry)) (name .0) (at .0) ⌝ }
 {
-    let start = stream::skip_spaces(text, at);
-    match numbers::number_from(text, start) {
+    let start = bytes::skip_spaces(text, at);
+    match numbers::parse_number(text, start) {
         NumberRead::Refused(e) => AngleRead::Refused(e),
         NumberRead::Value(n, p) => {
             let number = n.value;

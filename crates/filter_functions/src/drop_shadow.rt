@@ -13,10 +13,9 @@ use crate::ShadowLengths;
 use crate::arguments::is_percent;
 use crate::arguments::parse_filter_length;
 use crate::arguments::zero_length;
+use bytes::Place;
 use color::ColorRead;
-use length::Length;
 use length::LengthRead;
-use stream::Place;
 use stream::Trouble;
 
 // The colour may stand before the lengths or after them.
@@ -24,7 +23,7 @@ pub fn parse_drop_shadow_func(text: &[u8], name: Place, at: Place) -> FilterRead
     requires { ⌜ length (now text) ≤ 4096 ⌝ }
     ensures { λ r. ⌜ r ≡ parseDropShadowFunc (now (text .entry)) (name .0) (at .0) ⌝ }
 {
-    if stream::is_curr_byte_eq(text, at, b')') {
+    if bytes::is_curr_byte_eq(text, at, b')') {
         return FilterRead::Refused(stream::trouble_at(
             Trouble::MissingDropShadowOffset,
             at,
@@ -35,7 +34,7 @@ pub fn parse_drop_shadow_func(text: &[u8], name: Place, at: Place) -> FilterRead
     match try_parse_color(text, at) {
         ColorTry::Refused(e) => FilterRead::Refused(e),
         ColorTry::Found(color, p) => {
-            shadow_after(text, name, stream::skip_spaces(text, p), color)
+            shadow_after(text, name, bytes::skip_spaces(text, p), color)
         }
         ColorTry::Missing => shadow_before(text, name, at),
     }
@@ -52,7 +51,7 @@ fn try_parse_color(text: &[u8], at: Place) -> ColorTry
             if stream::is_outside_domain(e) {
                 return ColorTry::Refused(e);
             }
-            if stream::starts_with(text, at, b"currentColor") {
+            if bytes::starts_with(text, at, b"currentColor") {
                 let i = at.0;
                 return ColorTry::Found(ShadowColor::None, Place(i + 12));
             }
@@ -122,11 +121,11 @@ fn parse_shadow_lengths(text: &[u8], name: Place, at: Place) -> ShadowLengths
     match parse_filter_length(text, name, at) {
         LengthRead::Refused(e) => ShadowLengths::Refused(e),
         LengthRead::Value(dx, _, p) => {
-            let second = stream::skip_spaces(text, p);
+            let second = bytes::skip_spaces(text, p);
             match parse_filter_length(text, name, second) {
                 LengthRead::Refused(e) => ShadowLengths::Refused(e),
                 LengthRead::Value(dy, _, q) => {
-                    let third = stream::skip_spaces(text, q);
+                    let third = bytes::skip_spaces(text, q);
                     match parse_deviation(text, third) {
                         DeviationRead::Refused(e) => ShadowLengths::Refused(e),
                         DeviationRead::Value(d, r) => ShadowLengths::Value(dx, dy, d, r),
@@ -154,9 +153,7 @@ fn parse_deviation(text: &[u8], at: Place) -> DeviationRead
             if floats::is_sign_negative(l.number) | is_percent(unit) {
                 return DeviationRead::Value(zero_length(), p);
             }
-            // Field by field: a length copied whole would wait for the narrower stores of its fields.
-            let number = l.number;
-            DeviationRead::Value(Length { number, unit }, stream::skip_spaces(text, p))
+            DeviationRead::Value(l, bytes::skip_spaces(text, p))
         }
     }
 }

@@ -7,25 +7,26 @@ use native.Mathlib.Omega.{arith}
 use borrow.Author.Tests.{eqb-true}
 use lib.Dec.{eqb, leb, ltb}
 use lib.ListN.{length, getD, take, drop, length-take, length-drop}
-use Rattle.stream.specs.Blanks.{trimEnd}
-use Rattle.stream.specs.Bytes.{isSpace, isLinkByte, isUrlByte, isOther}
-use Rattle.stream.specs.Faults.{place, unexpectedData, consumeByte, consumeString}
-use Rattle.stream.specs.Flow.{bind}
+use Rattle.utf8.specs.Blanks.{trimEnd}
+use Rattle.bytes.specs.Bytes.{isSpace, isLinkByte, isUrlByte, isOther}
+use Rattle.bytes.specs.Moves.{place}
+use Rattle.stream.specs.Faults.{unexpectedData, consumeByte, consumeString}
+use Rattle.bytes.specs.Flow.{bind}
 use Rattle.stream.specs.Moves.{thenConsumed}
 use Rattle.stream.specs.Refusals.{refusalOf, admitText, thenAdmitted}
-use Rattle.stream.specs.Scan.{scan}
-use Rattle.stream.specs.Words.{ascii, part}
+use Rattle.bytes.specs.Scan.{scan}
+use Rattle.bytes.specs.Words.{ascii, part}
 use Rattle.stream.specs.declared.Admission.{Admission}
 use Rattle.stream.specs.declared.Admission.the-variants as M
 use Rattle.stream.specs.declared.Consumed.{Consumed}
 use Rattle.stream.specs.declared.Consumed.the-variants as C
 use Rattle.stream.specs.declared.Fault.{Fault}
-use Rattle.stream.specs.declared.Part.{Part}
-use Rattle.stream.specs.declared.Place.{Place}
+use Rattle.bytes.specs.declared.Part.{Part}
+use Rattle.bytes.specs.declared.Place.{Place}
 use Rattle.stream.specs.declared.Refusal.{Refusal}
 use Rattle.stream.proofs.Sames.{consume-all}
-use Rattle.stream.proofs.Scans.{scan-ge, scan-le}
-use Rattle.stream.proofs.Trimming.{trimEnd-le}
+use Rattle.bytes.proofs.Scans.{scan-ge, scan-le}
+use Rattle.utf8.proofs.Trimming.{trimEnd-le}
 use Rattle.funciri.specs.Answers.{wholeLink, iriFromStr, funcIriFromStr}
 use Rattle.funciri.specs.Link.{isQuote, isLink, linkAt, closeLink, closeQuote, quotedLink, plainLink, parseIri, parseFuncIri}
 use Rattle.funciri.specs.declared.LinkAnswer.the-variants as A

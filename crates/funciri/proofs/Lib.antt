@@ -1,8 +1,6 @@
 pub mod Steps
 pub mod Quotes
 pub mod Spans
-pub mod Bare
-pub mod Told
 pub mod Shifts
 pub mod Ends
 pub mod Worked

@@ -9,7 +9,7 @@ use lib.ListN.{length, getD, drop, drop-of-length-le}
 use lib.Seq.{drop-cons}
 use mir.Syntax.{w64}
 use mir.Val.{Fits}
-use Rattle.stream.proofs.Parts.{byte-inside}
+use Rattle.bytes.proofs.Parts.{byte-inside}
 use Rattle.funciri.specs.Link.{isQuote, hasQuote, isLink}
 
 -- The invariant of the walk: the bytes before i have no quote.

@@ -3,12 +3,14 @@ use Prim.Native.Nat.{ℕ, _+_}
 use mathlib.Core.List.{List, _++_}
 use mathlib.Core.Path.{_≡_, refl}
 use lib.ListN.{length}
-use Rattle.stream.specs.Flow.{bind}
-use Rattle.stream.specs.Moves.{movePlace, movePart, moveFault}
+use Rattle.bytes.specs.Flow.{bind}
+use Rattle.bytes.specs.Moves.{movePlace, movePart}
+use Rattle.stream.specs.Moves.{moveFault}
 use Rattle.stream.specs.declared.Fault.{Fault}
-use Rattle.stream.specs.declared.Part.{Part}
-use Rattle.stream.specs.declared.Place.{Place}
-use Rattle.stream.proofs.Shifts.{shifts, cond-push, part-shift, byte-shift, string-shift, consumed-move, consumed-push}
+use Rattle.bytes.specs.declared.Part.{Part}
+use Rattle.bytes.specs.declared.Place.{Place}
+use Rattle.bytes.proofs.Shifts.{shifts, cond-push, part-shift}
+use Rattle.stream.proofs.Shifts.{byte-shift, string-shift, consumed-move, consumed-push}
 use Rattle.funciri.specs.Link.{linkAt, closeLink, closeQuote, quotedLink, plainLink, parseIri, parseFuncIri}
 use Rattle.funciri.specs.Moves.{moveLinkRead, thenLink}
 use Rattle.funciri.specs.declared.LinkRead.{LinkRead}

@@ -8,14 +8,14 @@ use borrow.Author.Tests.{le-leb, lt-leb}
 use lib.ListN.{length, take, drop, length-drop}
 use lib.Seq.{length-take-le}
 use Rattle.stream.specs.Faults.{consumeByte}
-use Rattle.stream.specs.Scan.{scan}
+use Rattle.bytes.specs.Scan.{scan}
 use Rattle.stream.specs.declared.Consumed.{Consumed}
 use Rattle.stream.specs.declared.Consumed.the-variants as C
-use Rattle.stream.specs.declared.Part.{Part}
-use Rattle.stream.specs.declared.Place.{Place}
-use Rattle.stream.proofs.Parts.{rest-part}
+use Rattle.bytes.specs.declared.Part.{Part}
+use Rattle.bytes.specs.declared.Place.{Place}
+use Rattle.bytes.proofs.Parts.{rest-part}
 use Rattle.stream.proofs.Sames.{Took, consume-took}
-use Rattle.stream.proofs.Scans.{from-scan, scan-inside}
+use Rattle.bytes.proofs.Scans.{from-scan, scan-inside}
 use Rattle.funciri.specs.Link.{linkBytes}
 
 pub span-count : (s : List ℕ) (n : ℕ) → n ≤ length s → n ≡ length (take n s)

@@ -3,8 +3,8 @@ use Prim.Native.Nat.{ℕ}
 use mathlib.Core.List.{List}
 use mathlib.Core.Path.{_≡_}
 use Rattle.stream.specs.Refusals.{refusalOf}
-use Rattle.stream.specs.declared.Place.{Place}
-use Rattle.stream.specs.declared.Part.{Part}
+use Rattle.bytes.specs.declared.Place.{Place}
+use Rattle.bytes.specs.declared.Part.{Part}
 use Rattle.stream.specs.declared.Fault.{Fault}
 use Rattle.stream.specs.declared.Refusal.{Refusal}
 use Rattle.funciri.specs.Moves.{thenLink}

@@ -1,13 +1,14 @@
 -- Worked examples of the definitions, computed.
 use mathlib.Core.Path.{_≡_, refl}
-use Rattle.stream.specs.Bytes.{within}
-use Rattle.stream.specs.Characters.{keeps, rowOf, lenAt, charLen, walk, utf8Of, firsts, count, calcCharPosAt}
-use Rattle.stream.specs.Blanks.{blank1, blank2, blank3, byteBefore, blankEnd, blankBefore, back, trimEnd}
-use Rattle.stream.specs.Faults.{place, invalidValue, consumeByte, consumeString}
-use Rattle.stream.specs.Flow.{bind}
+use Rattle.bytes.specs.Bytes.{within}
+use Rattle.utf8.specs.Characters.{keeps, rowOf, lenAt, charLen, walk, utf8Of, firsts, count, calcCharPosAt}
+use Rattle.utf8.specs.Blanks.{blank1, blank2, blank3, byteBefore, blankEnd, blankBefore, back, trimEnd}
+use Rattle.bytes.specs.Moves.{place}
+use Rattle.stream.specs.Faults.{invalidValue, consumeByte, consumeString}
+use Rattle.bytes.specs.Flow.{bind}
 use Rattle.stream.specs.Refusals.{numberOf, refusalOf, admitUtf8, admitText}
-use Rattle.stream.specs.Scan.{run, scan}
-use Rattle.stream.specs.Words.{ascii, startsWith, part}
+use Rattle.bytes.specs.Scan.{run, scan}
+use Rattle.bytes.specs.Words.{ascii, startsWith, part}
 use Rattle.funciri.specs.Answers.{wholeLink, iriFromStr}
 use Rattle.funciri.specs.Link.{hasQuote, isLink, linkAt, closeLink, closeQuote, quotedLink, plainLink, parseIri, parseFuncIri}
 use Rattle.funciri.specs.Paper.{paper}

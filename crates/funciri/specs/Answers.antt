@@ -4,11 +4,11 @@ use mathlib.Core.Bool.{cond}
 use mathlib.Core.List.{List}
 use lib.Dec.{ltb}
 use lib.ListN.{length}
-use Rattle.stream.specs.Bytes.{isSpace}
+use Rattle.bytes.specs.Bytes.{isSpace}
 use Rattle.stream.specs.Faults.{unexpectedData}
-use Rattle.stream.specs.Flow.{bind}
+use Rattle.bytes.specs.Flow.{bind}
 use Rattle.stream.specs.Refusals.{refusalOf, admitText, thenAdmitted}
-use Rattle.stream.specs.Scan.{scan}
+use Rattle.bytes.specs.Scan.{scan}
 use Rattle.funciri.specs.Link.{parseIri, parseFuncIri}
 use Rattle.funciri.specs.Moves.{thenLink}
 use Rattle.funciri.specs.declared.LinkRead.{LinkRead}

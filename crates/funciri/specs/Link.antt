@@ -4,15 +4,16 @@ use mathlib.Core.Bool.{Bool, false, _||_, not, cond}
 use mathlib.Core.List.{List, [], _∷_}
 use lib.Dec.{leb, eqb}
 use lib.ListN.{length, getD, take, drop}
-use Rattle.stream.specs.Blanks.{trimEnd}
-use Rattle.stream.specs.Bytes.{isSpace, isLinkByte, isUrlByte, isOther}
-use Rattle.stream.specs.Faults.{place, invalidValue, consumeByte, consumeString}
-use Rattle.stream.specs.Flow.{bind}
+use Rattle.utf8.specs.Blanks.{trimEnd}
+use Rattle.bytes.specs.Bytes.{isSpace, isLinkByte, isUrlByte, isOther}
+use Rattle.bytes.specs.Moves.{place}
+use Rattle.stream.specs.Faults.{invalidValue, consumeByte, consumeString}
+use Rattle.bytes.specs.Flow.{bind}
 use Rattle.stream.specs.Moves.{thenConsumed}
-use Rattle.stream.specs.Scan.{scan}
-use Rattle.stream.specs.Words.{ascii, part}
-use Rattle.stream.specs.declared.Part.{Part}
-use Rattle.stream.specs.declared.Place.{Place}
+use Rattle.bytes.specs.Scan.{scan}
+use Rattle.bytes.specs.Words.{ascii, part}
+use Rattle.bytes.specs.declared.Part.{Part}
+use Rattle.bytes.specs.declared.Place.{Place}
 use Rattle.funciri.specs.declared.LinkRead.{LinkRead}
 use Rattle.funciri.specs.declared.LinkRead.the-variants as L
 

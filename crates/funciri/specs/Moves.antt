@@ -1,8 +1,9 @@
 -- A link's answer moved by n bytes, and going on with it.
 use Prim.Native.Nat.{ℕ}
-use Rattle.stream.specs.Moves.{movePlace, movePart, moveFault}
-use Rattle.stream.specs.declared.Place.{Place}
-use Rattle.stream.specs.declared.Part.{Part}
+use Rattle.bytes.specs.Moves.{movePlace, movePart}
+use Rattle.stream.specs.Moves.{moveFault}
+use Rattle.bytes.specs.declared.Place.{Place}
+use Rattle.bytes.specs.declared.Part.{Part}
 use Rattle.stream.specs.declared.Fault.{Fault}
 use Rattle.funciri.specs.declared.LinkRead.{LinkRead}
 use Rattle.funciri.specs.declared.LinkRead.the-variants as L

@@ -1,6 +1,6 @@
 -- Document 01's record of an answer.
 use Rattle.stream.specs.Refusals.{bareRefusal}
-use Rattle.stream.specs.declared.Part.{Part}
+use Rattle.bytes.specs.declared.Part.{Part}
 use Rattle.stream.specs.declared.Refusal.{Refusal}
 use Rattle.funciri.specs.declared.LinkAnswer.{LinkAnswer}
 use Rattle.funciri.specs.declared.LinkAnswer.the-variants as A

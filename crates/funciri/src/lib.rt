@@ -1,18 +1,15 @@
 // Links: `#name`, and `url(#name)` with or without quotes.
 ghost use mathlib.Core.Path.{_≡_};
-ghost use mathlib.Core.Bool.{true, _&&_, cond};
-ghost use lib.Dec.{ltb};
-ghost use lib.ListN.{length};
-ghost use Rattle.stream.specs.Characters.{utf8Of};
-ghost use Rattle.stream.specs.declared.Utf8.the-variants as Utf8;
+ghost use Rattle.utf8.specs.Characters.{utf8Of};
+ghost use Rattle.utf8.specs.declared.Utf8.the-variants as Utf8;
 ghost use Rattle.funciri.specs.Link.{isQuote, hasQuote, isLink, closeLink, closeQuote, quotedLink, plainLink, parseIri, parseFuncIri, linkBytes};
-ghost use Rattle.funciri.specs.Quick.{orTold};
 ghost use Rattle.funciri.specs.Answers.{wholeLink, iriFromStr, funcIriFromStr};
+ghost use Rattle.funciri.specs.Paper.{paper};
+use bytes::Part;
+use bytes::Place;
 use stream::Admission;
 use stream::Consumed;
 use stream::Fault;
-use stream::Part;
-use stream::Place;
 use stream::Refusal;
 
 // The link, as a part of the text, and the place where reading goes on, or why there is none.
@@ -29,6 +26,7 @@ pub enum LinkAnswer {
 
 pub fn iri_from_str(text: &[u8]) -> LinkAnswer
     ensures { λ r. ⌜ r ≡ iriFromStr (now (text .entry)) ⌝ }
+    ensures { λ r. ⌜ paper r ≡ paper (iriFromStr (now (text .entry))) ⌝ }
 {
     match stream::admit_text(text) {
         Admission::Refused(refusal) => LinkAnswer::Refused(refusal),
@@ -38,6 +36,7 @@ pub fn iri_from_str(text: &[u8]) -> LinkAnswer
 
 pub fn func_iri_from_str(text: &[u8]) -> LinkAnswer
     ensures { λ r. ⌜ r ≡ funcIriFromStr (now (text .entry)) ⌝ }
+    ensures { λ r. ⌜ paper r ≡ paper (funcIriFromStr (now (text .entry))) ⌝ }
 {
     match stream::admit_text(text) {
         Admission::Refused(refusal) => LinkAnswer::Refused(refusal),
@@ -53,7 +52,7 @@ fn whole_link(text: &[u8], read: LinkRead) -> LinkAnswer
     match read {
         LinkRead::Refused(fault) => LinkAnswer::Refused(stream::refusal_of(text, fault)),
         LinkRead::Link(link, next) => {
-            let end = stream::skip_spaces(text, next);
+            let end = bytes::skip_spaces(text, next);
             let e = end.0;
             if e < text.len() {
                 let fault = stream::unexpected_data(text, end);
@@ -67,11 +66,11 @@ fn whole_link(text: &[u8], read: LinkRead) -> LinkAnswer
 pub fn parse_iri(text: &[u8], at: Place) -> LinkRead
     ensures { λ r. ⌜ r ≡ parseIri (now (text .entry)) (at .0) ⌝ }
 {
-    let start = stream::skip_spaces(text, at);
+    let start = bytes::skip_spaces(text, at);
     match stream::consume_byte(text, start, b'#') {
         Consumed::Refused(fault) => LinkRead::Refused(fault),
         Consumed::Next(from) => {
-            let end = stream::skip_to_space(text, from);
+            let end = bytes::skip_to_space(text, from);
             let a = from.0;
             let e = end.0;
             if e <= a {
@@ -89,13 +88,13 @@ pub fn parse_iri(text: &[u8], at: Place) -> LinkRead
 pub fn parse_func_iri(text: &[u8], at: Place) -> LinkRead
     ensures { λ r. ⌜ r ≡ parseFuncIri (now (text .entry)) (at .0) ⌝ }
 {
-    let start = stream::skip_spaces(text, at);
+    let start = bytes::skip_spaces(text, at);
     match stream::consume_string(text, start, b"url(") {
         Consumed::Refused(fault) => LinkRead::Refused(fault),
         Consumed::Next(inner) => {
-            let first = stream::skip_spaces(text, inner);
+            let first = bytes::skip_spaces(text, inner);
             let i = first.0;
-            let b = stream::byte_at(text, i);
+            let b = bytes::byte_at(text, i);
             if is_quote(b) {
                 return quoted_link(text, Place(i + 1), b);
             }
@@ -104,45 +103,19 @@ pub fn parse_func_iri(text: &[u8], at: Place) -> LinkRead
     }
 }
 
-// The place of the bracket that ends `url(#name)` at the start of a text, the name of bytes that no reader has to judge; 0 where nothing is told.
-pub fn quick_link(text: &[u8]) -> usize
-    ensures { λ r. ⌜ orTold r (parseFuncIri (now (text .entry)) 0) ≡ parseFuncIri (now (text .entry)) 0 ⌝ }
-    ensures { λ r. ⌜ cond (ltb 0 r) (ltb 5 r && ltb r (length (now (text .entry)))) true ≡ true ⌝ }
-{
-    if stream::begins(text, b"url(#") {
-        let q = stream::skip_bare(text, Place(5));
-        let e = q.0;
-        if (5 < e) & stream::is_curr_byte_eq(text, q, b')') {
-            return e;
-        }
-    }
-    0
-}
-
 // What follows the opening quote.
 fn quoted_link(text: &[u8], at: Place, quote: u8) -> LinkRead
     ensures { λ r. ⌜ r ≡ quotedLink (now (text .entry)) (at .0) quote ⌝ }
 {
-    let start = stream::skip_spaces(text, at);
+    let start = bytes::skip_spaces(text, at);
     match stream::consume_byte(text, start, b'#') {
         Consumed::Refused(fault) => LinkRead::Refused(fault),
         Consumed::Next(from) => {
+            let end = bytes::skip_to_quote(text, from, quote);
             let a = from.0;
-            // Most links are such a run up to their quote: nothing is to be trimmed, and no quote stands inside.
-            // `quote` may be any byte here, and a space would be skipped below.
-            let quick = stream::skip_bare(text, from);
-            let q = quick.0;
-            if ((a < q) & is_quote(quote)) & stream::is_curr_byte_eq(text, quick, quote) {
-                let link = Part {
-                    start: from,
-                    len: q - a,
-                };
-                return close_link(text, Place(q + 1), link);
-            }
-            let end = stream::skip_to_quote(text, from, quote);
             let e = end.0;
             let run = &text[a..e];
-            let kept = stream::trim_end(run);
+            let kept = utf8::trim_end(run);
             let len = kept.0;
             if is_link(&run[..len]) {
                 let link = Part { start: from, len };
@@ -160,18 +133,8 @@ fn plain_link(text: &[u8], at: Place) -> LinkRead
     match stream::consume_byte(text, at, b'#') {
         Consumed::Refused(fault) => LinkRead::Refused(fault),
         Consumed::Next(from) => {
+            let end = bytes::skip_to_space_or_bracket(text, from);
             let a = from.0;
-            // Most links are such a run up to the bracket: no quote stands inside.
-            let quick = stream::skip_bare(text, from);
-            let q = quick.0;
-            if (a < q) & stream::is_curr_byte_eq(text, quick, b')') {
-                let link = Part {
-                    start: from,
-                    len: q - a,
-                };
-                return LinkRead::Link(link, Place(q + 1));
-            }
-            let end = stream::skip_to_space_or_bracket(text, from);
             let e = end.0;
             if is_link(&text[a..e]) {
                 let link = Part {
@@ -219,7 +182,7 @@ fn is_link(link: &[u8]) -> bool
 fn close_quote(text: &[u8], at: Place, quote: u8, link: Part) -> LinkRead
     ensures { λ r. ⌜ r ≡ closeQuote (now (text .entry)) (at .0) quote link ⌝ }
 {
-    let end = stream::skip_spaces(text, at);
+    let end = bytes::skip_spaces(text, at);
     match stream::consume_byte(text, end, quote) {
         Consumed::Refused(fault) => LinkRead::Refused(fault),
         Consumed::Next(next) => close_link(text, next, link),
@@ -230,7 +193,7 @@ fn close_quote(text: &[u8], at: Place, quote: u8, link: Part) -> LinkRead
 fn close_link(text: &[u8], at: Place, link: Part) -> LinkRead
     ensures { λ r. ⌜ r ≡ closeLink (now (text .entry)) (at .0) link ⌝ }
 {
-    let end = stream::skip_spaces(text, at);
+    let end = bytes::skip_spaces(text, at);
     match stream::consume_byte(text, end, b')') {
         Consumed::Refused(fault) => LinkRead::Refused(fault),
         Consumed::Next(next) => LinkRead::Link(link, next),

@@ -8,34 +8,34 @@ use native.Mathlib.Omega.{arith}
 use borrow.Author.Tests.{eqb-true, eq-eqb, ne-eqb, le-leb}
 use lib.Dec.{leb}
 use lib.ListN.{length, getD, length-append, List·getD-append, List·getD-eq-default}
-use Rattle.stream.specs.Bytes.{within, isSpace, isTail}
-use Rattle.stream.specs.Characters.{utf8Of, characters, firsts, onCharacter}
-use Rattle.stream.specs.Faults.{place}
-use Rattle.stream.specs.Flow.{bind}
-use Rattle.stream.specs.Refusals.{bareRefusal, refusalOf, admitUtf8, admitText, admitPlace, thenAdmitted}
-use Rattle.stream.specs.Scan.{scan}
+use Rattle.bytes.specs.Bytes.{within, isSpace, isTail}
+use Rattle.utf8.specs.Characters.{utf8Of, characters, firsts, onCharacter}
+use Rattle.bytes.specs.Moves.{place}
+use Rattle.bytes.specs.Flow.{bind}
+use Rattle.stream.specs.Refusals.{bareRefusal, admitUtf8, admitText, admitPlace, thenAdmitted}
+use Rattle.bytes.specs.Scan.{scan}
 use Rattle.stream.specs.declared.Admission.{Admission}
 use Rattle.stream.specs.declared.Admission.the-variants as A
-use Rattle.stream.specs.declared.Place.{Place}
+use Rattle.bytes.specs.declared.Place.{Place}
 use Rattle.stream.specs.declared.Refusal.{Refusal}
-use Rattle.stream.specs.declared.Utf8.{Utf8}
-use Rattle.stream.specs.declared.Utf8.the-variants.{WellFormed, IllFormed}
-use Rattle.stream.proofs.Ahead.{scan-again, scan-kept}
-use Rattle.stream.proofs.Counting.{on-byte, on-end, on-shift}
-use Rattle.stream.proofs.Cuts.{after-ascii, scan-on}
+use Rattle.utf8.specs.declared.Utf8.{Utf8}
+use Rattle.utf8.specs.declared.Utf8.the-variants.{WellFormed, IllFormed}
+use Rattle.bytes.proofs.Ahead.{scan-again, scan-kept}
+use Rattle.utf8.proofs.Counting.{on-byte, on-end, on-shift}
+use Rattle.utf8.proofs.Cuts.{after-ascii, scan-on}
 use Rattle.stream.proofs.Edges.{admit-good, admitted-small, admitted-utf8, on-last, refusal-shift}
-use Rattle.stream.proofs.Ranges.{le-or-lt}
-use Rattle.stream.proofs.Scans.{scan-start, scan-end, scan-le, scan-shift}
-use Rattle.stream.proofs.Walks.{utf8-join}
-use Rattle.filter_functions.specs.Filters.{parseStep, nextFilter}
-use Rattle.filter_functions.specs.Moves.{moveStepRead, thenStep}
-use Rattle.filter_functions.specs.declared.FilterStep.{FilterStep}
+use Rattle.bytes.proofs.Ranges.{le-or-lt}
+use Rattle.bytes.proofs.Scans.{scan-start, scan-end, scan-le, scan-shift}
+use Rattle.utf8.proofs.Walks.{utf8-join}
+use Rattle.filter_functions.specs.Filters.{parseStep, edged, stepOf, nextFilter}
+use Rattle.filter_functions.specs.Moves.{moveStepRead}
 use Rattle.filter_functions.specs.declared.FilterStep.the-variants as O
 use Rattle.filter_functions.specs.declared.FilterValue.{FilterValue}
 use Rattle.filter_functions.specs.declared.StepRead.{StepRead}
 use Rattle.filter_functions.specs.declared.StepRead.the-variants as S
 use Rattle.joins.specs.Joins.{moveStep, passing}
 use Rattle.joins.proofs.Laws.{Closed, StepLaws}
+use Rattle.bytes.proofs.Wording.{space-ascii}
 
 -- a text and a place that are admitted
 pub record Admits (s : List ℕ) (i : ℕ) : Type 0 where
@@ -67,13 +67,9 @@ judged s i = go (admitText s) refl (onCharacter s i) refl
     go A.Admitted q false e = inr (record { refusal = bareRefusal 3; few = omega arith; same = simp (q, e) })
     go (A.Refused r) q t e = inr (record { refusal = r; few = few s r q; same = simp q })
 
--- what the outside step makes of the inside one
-abbrev edged : List ℕ → StepRead → FilterStep
-edged s x = thenStep (λ e. O.Refused (refusalOf s e) (place (length s))) (O.End (place (length s))) (O.NoneWord (place (length s))) x (λ v p. O.Value v p)
-
 -- of an admitted text, as far as the place goes
 next-placed : (s : List ℕ) (i : ℕ) → length s ≤ 4096 → utf8Of s ≡ WellFormed → nextFilter s i ≡ cond (onCharacter s i) (edged s (parseStep s i)) (O.Refused (bareRefusal 3) (place i))
-unfolding nextFilter admitPlace
+unfolding nextFilter stepOf admitPlace
 next-placed s i l u = simp (← admit-good s l refl u) (go (onCharacter s i))
   where
     go : (t : Bool) → thenAdmitted (λ e. O.Refused e (place i)) (cond t A.Admitted (A.Refused (bareRefusal 3))) (edged s (parseStep s i))
@@ -126,16 +122,6 @@ module _ (s : List ℕ) (i : ℕ) where
 
     pub end-parsed : parseStep s i ≡ S.End
     end-parsed = end-read s (parseStep s i) p (sym (next-edged end-admits) ∙ e)
-
-space-ascii : (x : ℕ) → isSpace x ≡ true → x < 128
-space-ascii x e =
-    ⊎-elim
-    (λ (h : 128 ≤ x).
-    let f : false ≡ true = simp (ne-eqb x 32 (λ k. omega arith), ne-eqb x 9 (λ k. omega arith), ne-eqb x 10 (λ k. omega arith), ne-eqb x 13 (λ k. omega arith)) at e in
-    let z : _≡_ {A = ℕ} 0 1 = cc in
-    absurd (omega arith))
-    (λ (h : x < 128). h)
-    (le-or-lt 128 x)
 
 -- a place is on a character where its byte continues none, and the end is such a place
 on-tail : {s : List ℕ} {i : ℕ} → Admits s i → isTail (getD s i 0) ≡ false

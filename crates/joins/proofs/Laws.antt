@@ -3,10 +3,10 @@ use Prim.Native.Nat.{ℕ, _+_, _≤_, _<_}
 use mathlib.Core.List.{List, _++_}
 use mathlib.Core.Path.{_≡_}
 use lib.ListN.{length, getD}
-use Rattle.stream.specs.Bytes.{isSpace}
-use Rattle.stream.specs.Faults.{place}
-use Rattle.stream.specs.Scan.{scan}
-use Rattle.stream.specs.declared.Place.{Place}
+use Rattle.bytes.specs.Bytes.{isSpace}
+use Rattle.bytes.specs.Moves.{place}
+use Rattle.bytes.specs.Scan.{scan}
+use Rattle.bytes.specs.declared.Place.{Place}
 use Rattle.filter_functions.specs.Filters.{parseStep}
 use Rattle.filter_functions.specs.Moves.{moveStepRead}
 use Rattle.filter_functions.specs.declared.FilterValue.{FilterValue}

@@ -5,11 +5,11 @@ use mathlib.Core.Path.{_≡_, refl, sym, ap, _∙_}
 use native.Mathlib.Nat.{le-div-iff-mul-le}
 use native.Mathlib.Omega.{arith}
 use lib.ListN.{length}
-use Rattle.stream.specs.Bytes.{isSpace}
-use Rattle.stream.specs.Characters.{utf8Of, characters}
-use Rattle.stream.specs.Scan.{scan}
-use Rattle.stream.specs.declared.Place.{Place}
-use Rattle.stream.specs.declared.Utf8.the-variants.{WellFormed}
+use Rattle.bytes.specs.Bytes.{isSpace}
+use Rattle.utf8.specs.Characters.{utf8Of, characters}
+use Rattle.bytes.specs.Scan.{scan}
+use Rattle.bytes.specs.declared.Place.{Place}
+use Rattle.utf8.specs.declared.Utf8.the-variants.{WellFormed}
 use Rattle.filter_functions.specs.Filters.{nextFilter}
 use Rattle.filter_functions.specs.Moves.{moveFilterValue}
 use Rattle.filter_functions.specs.Paper.{paperStep, result}

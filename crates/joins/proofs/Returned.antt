@@ -3,10 +3,10 @@ use Prim.Native.Nat.{ℕ, _+_, _≤_}
 use mathlib.Core.List.{List, _++_}
 use mathlib.Core.Path.{_≡_, sym, _∙_}
 use lib.ListN.{length}
-use Rattle.stream.specs.Bytes.{isSpace}
-use Rattle.stream.specs.Characters.{utf8Of, characters}
-use Rattle.stream.specs.Scan.{scan}
-use Rattle.stream.specs.declared.Utf8.the-variants.{WellFormed}
+use Rattle.bytes.specs.Bytes.{isSpace}
+use Rattle.utf8.specs.Characters.{utf8Of, characters}
+use Rattle.bytes.specs.Scan.{scan}
+use Rattle.utf8.specs.declared.Utf8.the-variants.{WellFormed}
 use Rattle.filter_functions.specs.Filters.{nextFilter}
 use Rattle.filter_functions.specs.declared.FilterStep.{FilterStep}
 use Rattle.joins.specs.Joins.{moveStep, Unchanged, Meets}

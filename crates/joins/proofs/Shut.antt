@@ -6,15 +6,15 @@ use mathlib.Core.Path.{_≡_, refl, ap}
 use native.Mathlib.Omega.{arith}
 use lib.Dec.{eqb}
 use lib.ListN.{length, getD, drop}
-use Rattle.stream.specs.Bytes.{within}
-use Rattle.stream.specs.Characters.{keeps, rowOf, lenAt, charLen, walk, utf8Of, firsts, count, characters, calcCharPosAt, onCharacter}
-use Rattle.stream.specs.Faults.{place, consumeByte}
-use Rattle.stream.specs.Flow.{bind}
-use Rattle.stream.specs.Moves.{movePlace}
+use Rattle.bytes.specs.Bytes.{within}
+use Rattle.utf8.specs.Characters.{keeps, rowOf, lenAt, charLen, walk, utf8Of, firsts, count, characters, calcCharPosAt, onCharacter}
+use Rattle.bytes.specs.Moves.{place, movePlace}
+use Rattle.stream.specs.Faults.{consumeByte}
+use Rattle.bytes.specs.Flow.{bind}
 use Rattle.stream.specs.Refusals.{bareRefusal, numberOf, refusalOf, admitUtf8, admitText, admitPlace}
-use Rattle.stream.specs.Scan.{scan, run}
-use Rattle.stream.specs.Words.{ascii, same, startsWith, part, isCurrByteEq}
-use Rattle.filter_functions.specs.Filters.{nextFilter, parseStep, parseNext, closeBracket, parseArgument, filterName}
+use Rattle.bytes.specs.Scan.{scan, run}
+use Rattle.bytes.specs.Words.{ascii, same, startsWith, part, isCurrByteEq}
+use Rattle.filter_functions.specs.Filters.{nextFilter, stepOf, parseStep, parseNext, closeBracket, parseArgument, filterName}
 use Rattle.filter_functions.specs.Moves.{moveFilterValue}
 use Rattle.filter_functions.specs.Paper.{paperStep, result}
 use Rattle.filter_functions.specs.Values.{parseBlur, parseUrl}
@@ -89,7 +89,7 @@ pub record Wrong : Type 0 where
   pub letters : Join lettering → ⊥
 
 pub wrong : Wrong
-unfolding characters paperStep result values moveStep passing further answers from follow nextFilter admitPlace admitText admitUtf8 utf8Of walk charLen lenAt rowOf keeps within onCharacter firsts count calcCharPosAt refusalOf numberOf parseStep bind scan run parseNext consumeByte parseArgument filterName same part startsWith parseBlur parseUrl isCurrByteEq closeBracket
+unfolding characters paperStep result values moveStep passing further answers from follow nextFilter stepOf admitPlace admitText admitUtf8 utf8Of walk charLen lenAt rowOf keeps within onCharacter firsts count calcCharPosAt refusalOf numberOf parseStep bind scan run parseNext consumeByte parseArgument filterName same part startsWith parseBlur parseUrl isCurrByteEq closeBracket
 wrong =
     record {
       repeats = λ f. let h : 7 ≤ 1 = f (ascii "blur()") 0 in omega arith;

@@ -2,15 +2,16 @@
 use Prim.Native.Nat.{ℕ}
 use mathlib.Core.List.{[], _∷_}
 use mathlib.Core.Path.{_≡_, refl}
-use Rattle.stream.specs.Bytes.{within}
-use Rattle.stream.specs.Characters.{keeps, rowOf, lenAt, charLen, walk, utf8Of, firsts, count, calcCharPosAt, onCharacter}
-use Rattle.stream.specs.Faults.{place, consumeByte}
-use Rattle.stream.specs.Flow.{bind}
+use Rattle.bytes.specs.Bytes.{within}
+use Rattle.utf8.specs.Characters.{keeps, rowOf, lenAt, charLen, walk, utf8Of, firsts, count, calcCharPosAt, onCharacter}
+use Rattle.bytes.specs.Moves.{place}
+use Rattle.stream.specs.Faults.{consumeByte}
+use Rattle.bytes.specs.Flow.{bind}
 use Rattle.stream.specs.Refusals.{numberOf, refusalOf, admitUtf8, admitText, admitPlace}
-use Rattle.stream.specs.Scan.{scan, run}
-use Rattle.stream.specs.Words.{ascii, same, startsWith, part, isCurrByteEq}
+use Rattle.bytes.specs.Scan.{scan, run}
+use Rattle.bytes.specs.Words.{ascii, same, startsWith, part, isCurrByteEq}
 use Rattle.length.specs.Paper.{zeroLength}
-use Rattle.filter_functions.specs.Filters.{nextFilter, parseStep, parseNext, closeBracket, parseArgument, filterName, afterNone}
+use Rattle.filter_functions.specs.Filters.{nextFilter, stepOf, parseStep, parseNext, closeBracket, parseArgument, filterName, afterNone}
 use Rattle.filter_functions.specs.Values.{parseBlur, parseUrl}
 use Rattle.filter_functions.specs.declared.FilterStep.{FilterStep}
 use Rattle.filter_functions.specs.declared.FilterStep.the-variants as O
@@ -38,5 +39,5 @@ pub record Examples : Type 0 where
   pub trouble : answers nextFilter (ascii "blur() x) blur()") 0 ≡ blur 7 ∷ refused 9 16 ∷ []
 
 pub examples : Examples
-unfolding answers from follow nextFilter admitPlace admitText admitUtf8 utf8Of walk charLen lenAt rowOf keeps within onCharacter firsts count calcCharPosAt refusalOf numberOf parseStep afterNone bind scan run parseNext consumeByte parseArgument filterName same part startsWith parseBlur parseUrl isCurrByteEq closeBracket
+unfolding answers from follow nextFilter stepOf admitPlace admitText admitUtf8 utf8Of walk charLen lenAt rowOf keeps within onCharacter firsts count calcCharPosAt refusalOf numberOf parseStep afterNone bind scan run parseNext consumeByte parseArgument filterName same part startsWith parseBlur parseUrl isCurrByteEq closeBracket
 examples = record { one = refl; other = refl; both = refl; none = refl; trouble = refl }

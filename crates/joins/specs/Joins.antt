@@ -10,14 +10,14 @@ use mathlib.Core.List.{List, [], _∷_, _++_, map}
 use mathlib.Core.Path.{_≡_}
 use lib.Dec.{eqb}
 use lib.ListN.{length}
-use Rattle.stream.specs.Bytes.{isSpace}
-use Rattle.stream.specs.Characters.{utf8Of, characters}
-use Rattle.stream.specs.Faults.{place}
-use Rattle.stream.specs.Moves.{movePlace, moveRefusal}
-use Rattle.stream.specs.Scan.{scan}
-use Rattle.stream.specs.declared.Place.{Place}
+use Rattle.bytes.specs.Bytes.{isSpace}
+use Rattle.utf8.specs.Characters.{utf8Of, characters}
+use Rattle.bytes.specs.Moves.{place, movePlace}
+use Rattle.stream.specs.Moves.{moveRefusal}
+use Rattle.bytes.specs.Scan.{scan}
+use Rattle.bytes.specs.declared.Place.{Place}
 use Rattle.stream.specs.declared.Refusal.{Refusal}
-use Rattle.stream.specs.declared.Utf8.the-variants.{WellFormed}
+use Rattle.utf8.specs.declared.Utf8.the-variants.{WellFormed}
 use Rattle.filter_functions.specs.Moves.{moveFilterValue}
 use Rattle.filter_functions.specs.Paper.{Result, PaperStep, paperStep}
 use Rattle.filter_functions.specs.declared.FilterStep.{FilterStep}

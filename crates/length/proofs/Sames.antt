@@ -7,8 +7,8 @@ use borrow.Author.Tests.{lt-leb}
 use lib.Dec.{leb}
 use lib.ListN.{length}
 use Rattle.stream.specs.declared.Fault.{Fault}
-use Rattle.stream.specs.declared.Place.{Place}
-use Rattle.stream.proofs.Ahead.{Ahead, ahead-inside, starts-more, end-more}
+use Rattle.bytes.specs.declared.Place.{Place}
+use Rattle.bytes.proofs.Ahead.{Ahead, ahead-inside, starts-more, end-more}
 use Rattle.stream.proofs.Sames.{sames}
 use Rattle.numbers.specs.declared.Number.{Number}
 use Rattle.numbers.proofs.Sames.{same-numbers}

@@ -1,6 +1,6 @@
 -- What a return is by the definitions: going on with an answer that a call gave.
 use mathlib.Core.Path.{_≡_}
-use Rattle.stream.specs.declared.Place.{Place}
+use Rattle.bytes.specs.declared.Place.{Place}
 use Rattle.stream.specs.declared.Fault.{Fault}
 use Rattle.stream.specs.declared.Refusal.{Refusal}
 use Rattle.numbers.specs.declared.Number.{Number}

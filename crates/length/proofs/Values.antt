@@ -10,19 +10,20 @@ use lib.Ieee.Scale.{finite}
 use lib.ListN.{length, drop}
 use mir.Syntax.{w64}
 use mir.Val.{Fits}
-use Rattle.stream.specs.Bytes.{isSpace}
-use Rattle.stream.specs.Faults.{place, parseListSeparator}
-use Rattle.stream.specs.Flow.{bind}
-use Rattle.stream.specs.Scan.{scan}
-use Rattle.stream.specs.Words.{startsWith, isCurrByteEq}
+use Rattle.bytes.specs.Bytes.{isSpace}
+use Rattle.bytes.specs.Moves.{place}
+use Rattle.stream.specs.Faults.{parseListSeparator}
+use Rattle.bytes.specs.Flow.{bind}
+use Rattle.bytes.specs.Scan.{scan}
+use Rattle.bytes.specs.Words.{startsWith, isCurrByteEq}
 use Rattle.stream.specs.declared.Fault.{Fault}
-use Rattle.stream.specs.declared.Place.{Place}
-use Rattle.stream.proofs.Ahead.{Ahead, free, ahead-pass, pass-here, pass-trans, pass-scan, pass-word}
-use Rattle.stream.proofs.Ranges.{either}
+use Rattle.bytes.specs.declared.Place.{Place}
+use Rattle.bytes.proofs.Ahead.{Ahead, free, ahead-pass, pass-here, pass-trans, pass-scan, pass-word}
+use Rattle.bytes.proofs.Ranges.{either}
 use Rattle.stream.proofs.Sames.{separator-pass}
-use Rattle.stream.proofs.Scans.{scan-le}
-use Rattle.stream.proofs.Shifts.{cond-push}
-use Rattle.stream.proofs.Wording.{word-inside, curr-inside}
+use Rattle.bytes.proofs.Scans.{scan-le}
+use Rattle.bytes.proofs.Shifts.{cond-push}
+use Rattle.bytes.proofs.Wording.{word-inside, curr-inside}
 use Rattle.floats.proofs.Bounds.{is-finite}
 use Rattle.numbers.specs.Number.{parseNumber}
 use Rattle.numbers.specs.declared.Number.{Number}
@@ -88,14 +89,10 @@ module _ (s : List ℕ) (i : ℕ) where
         inside = λ h. either (isCurrByteEq s j 44) (λ e. simp e (omega (arith, curr-inside s j 44 refl e))) (λ e. simp e (scan-le isSpace s i h));
       }
 
--- the place after a unit is inside: u is the unit, w its width
-pub unit-inside : (s : List ℕ) (i : ℕ) {u : LengthUnit} {w : ℕ} → u ≡ unitAt s i → w ≡ unitWidth u → i ≤ length s → i + w ≤ length s
-unit-inside s i v h l = rw (h, v) (unit-goes s i .inside l)
-
--- so that it fits: r is the number's answer
+-- the place after a unit is inside, so that it fits: r is the number's answer, u its unit, w the unit's width
 pub unit-fits : (s : List ℕ) (i : ℕ) (r : NumberRead) (n : Number) (p : Place) (u : LengthUnit) (w : ℕ) → r ≡ parseNumber s i → r ≡ N.Value n p
     → u ≡ unitAt s (p .0) → w ≡ unitWidth u → length s ≤ 4096 → Fits w64 (p .0 + w)
-unit-fits s i r n p u w q e v h l = omega (arith, unit-inside s (p .0) v h (number-known s i n p (sym q ∙ e) .inside))
+unit-fits s i r n p u w q e v h l = rw (h, v) (omega (arith, unit-goes s (p .0) .inside (number-known s i n p (sym q ∙ e) .inside)))
 
 module _ (s : List ℕ) (i : ℕ) where
   pub length-taken : allLengths (LengthTaken s i) (parseLength s i)

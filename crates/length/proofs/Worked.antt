@@ -3,13 +3,14 @@ use mathlib.Core.Bool.{false}
 use mathlib.Core.Path.{_≡_, refl}
 use lib.IntN.{pos}
 use lib.Ieee.{fin, mul, div, neg, ofInt, ofBits}
-use Rattle.stream.specs.Bytes.{within}
-use Rattle.stream.specs.Characters.{keeps, rowOf, lenAt, charLen, walk, utf8Of, firsts, count, calcCharPosAt, onCharacter}
-use Rattle.stream.specs.Faults.{place, unexpectedData, parseListSeparator}
-use Rattle.stream.specs.Flow.{bind}
+use Rattle.bytes.specs.Bytes.{within}
+use Rattle.utf8.specs.Characters.{keeps, rowOf, lenAt, charLen, walk, utf8Of, firsts, count, calcCharPosAt, onCharacter}
+use Rattle.bytes.specs.Moves.{place}
+use Rattle.stream.specs.Faults.{unexpectedData, parseListSeparator}
+use Rattle.bytes.specs.Flow.{bind}
 use Rattle.stream.specs.Refusals.{numberOf, refusalOf, admitUtf8, admitText, admitPlace}
-use Rattle.stream.specs.Scan.{scan, run}
-use Rattle.stream.specs.Words.{ascii, startsWith, isCurrByteEq}
+use Rattle.bytes.specs.Scan.{scan, run}
+use Rattle.bytes.specs.Words.{ascii, startsWith, isCurrByteEq}
 use Rattle.numbers.specs.Digits.{value}
 use Rattle.numbers.specs.Powers.{powerOf, powerBits}
 use Rattle.numbers.specs.Number.{parseNumber, numberFrom, finished, scaled, valueOf, scaleOf, exponentAt, exponentFrom, mantissaAt, mantissaDot, afterSign}

@@ -4,11 +4,12 @@ use mathlib.Core.Bool.{cond}
 use mathlib.Core.List.{List}
 use lib.Dec.{leb, ltb}
 use lib.ListN.{length, drop}
-use Rattle.stream.specs.Bytes.{isSpace}
-use Rattle.stream.specs.Flow.{bind}
-use Rattle.stream.specs.Scan.{scan}
-use Rattle.stream.specs.Words.{ascii, startsWith}
-use Rattle.stream.specs.Faults.{place, unexpectedEnd, unexpectedData, parseListSeparator}
+use Rattle.bytes.specs.Bytes.{isSpace}
+use Rattle.bytes.specs.Flow.{bind}
+use Rattle.bytes.specs.Scan.{scan}
+use Rattle.bytes.specs.Words.{ascii, startsWith}
+use Rattle.bytes.specs.Moves.{place}
+use Rattle.stream.specs.Faults.{unexpectedEnd, unexpectedData, parseListSeparator}
 use Rattle.stream.specs.Refusals.{refusalOf, admitText, admitPlace, thenAdmitted}
 use Rattle.numbers.specs.Number.{parseNumber}
 use Rattle.numbers.specs.Moves.{thenNumber}

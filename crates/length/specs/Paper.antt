@@ -1,7 +1,7 @@
 -- Document 01's record of an answer: the number, and "a result of zeros" for a refusal.
 use mathlib.Core.Bool.{Bool, true, false}
 use Rattle.stream.specs.Refusals.{bareRefusal}
-use Rattle.stream.specs.declared.Place.{Place}
+use Rattle.bytes.specs.declared.Place.{Place}
 use Rattle.stream.specs.declared.Refusal.{Refusal}
 use Rattle.floats.specs.Floats.{d0}
 use Rattle.length.specs.declared.LengthUnit.the-variants as U

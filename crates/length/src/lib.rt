@@ -3,17 +3,13 @@ ghost use mathlib.Core.Path.{_≡_};
 ghost use Prim.Native.Nat.{_≤_};
 ghost use lib.ListN.{length};
 ghost use Rattle.length.specs.Lengths.{unitAt, unitRest, unitWidth, parseLength, parseListLength, parseWhole, fromStr, nextLength};
+ghost use Rattle.length.specs.Paper.{paper, paperStep};
+use bytes::Place;
 use numbers::Number;
 use numbers::NumberRead;
 use stream::Admission;
 use stream::Fault;
-use stream::Place;
 use stream::Refusal;
-
-mod flat;
-
-pub use flat::quick_length;
-pub use flat::quick_list_length;
 
 pub enum LengthUnit {
     None,
@@ -39,14 +35,6 @@ pub enum LengthRead {
     Refused(Fault),
 }
 
-// A length that is told at once: `end` is where its number ended, `next` where reading goes on, 0 where nothing is told.
-pub struct QuickLength {
-    pub number: f64,
-    pub unit: LengthUnit,
-    pub end: usize,
-    pub next: usize,
-}
-
 pub enum LengthAnswer {
     Value(Length),
     Refused(Refusal),
@@ -62,26 +50,14 @@ pub enum LengthStep {
 // A whole text: leading spaces are allowed, trailing ones are not.
 pub fn from_str(text: &[u8]) -> LengthAnswer
     ensures { λ r. ⌜ r ≡ fromStr (now (text .entry)) ⌝ }
+    ensures { λ r. ⌜ paper r ≡ paper (fromStr (now (text .entry))) ⌝ }
 {
     match stream::admit_text(text) {
         Admission::Refused(refusal) => LengthAnswer::Refused(refusal),
-        Admission::Admitted => {
-            let q = quick_length(text, 0);
-            let next = q.next;
-            if 0 < next {
-                if next < text.len() {
-                    let fault = stream::unexpected_data(text, Place(next));
-                    return LengthAnswer::Refused(stream::refusal_of(text, fault));
-                }
-                let unit = q.unit;
-                let number = q.number;
-                return LengthAnswer::Value(Length { number, unit });
-            }
-            match parse_whole(text) {
-                LengthRead::Refused(e) => LengthAnswer::Refused(stream::refusal_of(text, e)),
-                LengthRead::Value(l, _, _) => LengthAnswer::Value(l),
-            }
-        }
+        Admission::Admitted => match parse_whole(text) {
+            LengthRead::Refused(e) => LengthAnswer::Refused(stream::refusal_of(text, e)),
+            LengthRead::Value(l, _, _) => LengthAnswer::Value(l),
+        },
     }
 }
 
@@ -102,49 +78,19 @@ fn parse_whole(text: &[u8]) -> LengthRead
     }
 }
 
-// A fault, field by field: copied whole out of one enum into another, its padding is copied, too, which waits for the stores
-// that lie beside it.
-fn anew(fault: Fault) -> Fault
-    ensures { λ r. ⌜ r ≡ fault ⌝ }
-{
-    let trouble = fault.trouble;
-    let at = fault.at;
-    let from = fault.from;
-    let to = fault.to;
-    Fault {
-        trouble,
-        at: Place(at.0),
-        from: Place(from.0),
-        to: Place(to.0),
-        found: fault.found,
-        wanted: fault.wanted,
-    }
-}
-
-// A number, and a unit directly after it. The slice is taken anew and the number built field by field:
-// what is handed on whole is copied by 16 bytes, which wait for the narrower stores of its parts.
+// A number, and a unit directly after it.
 pub fn parse_length(text: &[u8], at: Place) -> LengthRead
     requires { ⌜ length (now text) ≤ 4096 ⌝ }
     ensures { λ r. ⌜ r ≡ parseLength (now (text .entry)) (at .0) ⌝ }
 {
-    match numbers::parse_number(&text[0..], at) {
-        NumberRead::Refused(e) => LengthRead::Refused(anew(e)),
+    match numbers::parse_number(text, at) {
+        NumberRead::Refused(e) => LengthRead::Refused(e),
         NumberRead::Value(n, p) => {
             let i = p.0;
             let unit = unit_at(text, p);
             let width = unit_width(unit);
             let number = n.value;
-            let whole = n.whole;
-            let end = n.end;
-            LengthRead::Value(
-                Length { number, unit },
-                Number {
-                    value: number,
-                    whole,
-                    end,
-                },
-                Place(i + width),
-            )
+            LengthRead::Value(Length { number, unit }, n, Place(i + width))
         }
     }
 }
@@ -153,19 +99,19 @@ pub fn parse_length(text: &[u8], at: Place) -> LengthRead
 fn unit_at(text: &[u8], at: Place) -> LengthUnit
     ensures { λ r. ⌜ r ≡ unitAt (now (text .entry)) (at .0) ⌝ }
 {
-    if stream::starts_with(text, at, b"%") {
+    if bytes::starts_with(text, at, b"%") {
         return LengthUnit::Percent;
     }
-    if stream::starts_with(text, at, b"em") {
+    if bytes::starts_with(text, at, b"em") {
         return LengthUnit::Em;
     }
-    if stream::starts_with(text, at, b"ex") {
+    if bytes::starts_with(text, at, b"ex") {
         return LengthUnit::Ex;
     }
-    if stream::starts_with(text, at, b"px") {
+    if bytes::starts_with(text, at, b"px") {
         return LengthUnit::Px;
     }
-    if stream::starts_with(text, at, b"in") {
+    if bytes::starts_with(text, at, b"in") {
         return LengthUnit::In;
     }
     unit_rest(text, at)
@@ -174,23 +120,23 @@ fn unit_at(text: &[u8], at: Place) -> LengthUnit
 fn unit_rest(text: &[u8], at: Place) -> LengthUnit
     ensures { λ r. ⌜ r ≡ unitRest (now (text .entry)) (at .0) ⌝ }
 {
-    if stream::starts_with(text, at, b"cm") {
+    if bytes::starts_with(text, at, b"cm") {
         return LengthUnit::Cm;
     }
-    if stream::starts_with(text, at, b"mm") {
+    if bytes::starts_with(text, at, b"mm") {
         return LengthUnit::Mm;
     }
-    if stream::starts_with(text, at, b"pt") {
+    if bytes::starts_with(text, at, b"pt") {
         return LengthUnit::Pt;
     }
-    if stream::starts_with(text, at, b"pc") {
+    if bytes::starts_with(text, at, b"pc") {
         return LengthUnit::Pc;
     }
     LengthUnit::None
 }
 
 // How many bytes a unit's word has.
-fn unit_width(unit: LengthUnit) -> usize
+pub fn unit_width(unit: LengthUnit) -> usize
     ensures { λ r. ⌜ r ≡ unitWidth unit ⌝ }
 {
     match unit {
@@ -212,15 +158,8 @@ pub fn parse_list_length(text: &[u8], at: Place) -> LengthRead
     match parse_length(text, at) {
         LengthRead::Refused(e) => LengthRead::Refused(e),
         LengthRead::Value(l, n, p) => {
-            // field by field, as in `parse_length`
-            let number = l.number;
-            let unit = l.unit;
-            let next = stream::skip_spaces(text, p);
-            LengthRead::Value(
-                Length { number, unit },
-                n,
-                stream::parse_list_separator(text, next),
-            )
+            let next = bytes::skip_spaces(text, p);
+            LengthRead::Value(l, n, stream::parse_list_separator(text, next))
         }
     }
 }
@@ -228,6 +167,7 @@ pub fn parse_list_length(text: &[u8], at: Place) -> LengthRead
 // One step of a list of lengths, from a list place.
 pub fn next(text: &[u8], place: Place) -> LengthStep
     ensures { λ r. ⌜ r ≡ nextLength (now (text .entry)) (place .0) ⌝ }
+    ensures { λ r. ⌜ paperStep r ≡ paperStep (nextLength (now (text .entry)) (place .0)) ⌝ }
 {
     match stream::admit_place(text, place) {
         Admission::Refused(refusal) => LengthStep::Refused(refusal, place),

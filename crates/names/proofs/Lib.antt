@@ -1,9 +1,5 @@
+pub mod Orders
 pub mod Tables
 pub mod Naming
-pub mod Packs
 pub mod Lent
 pub mod Searches
-pub mod Small
-pub mod Spelt
-pub mod Arms
-pub mod Finding

@@ -2,7 +2,7 @@
 use Prim.Native.Nat.{ℕ}
 use Prim.Native.String.{String}
 use mathlib.Core.List.{List, [], _∷_}
-use Rattle.stream.specs.Words.{ascii}
+use Rattle.bytes.specs.Words.{ascii}
 
 -- a line of the standard's table
 pub record Keyword : Type 0 where

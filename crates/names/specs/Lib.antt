@@ -1,4 +1,3 @@
 pub mod Keywords
 pub mod Look
 pub mod Search
-pub mod Numbered

@@ -1,8 +1,8 @@
 -- The colour that a word names.
-use Prim.Native.Nat.{ℕ, _+_, _*_}
+use Prim.Native.Nat.{ℕ}
 use mathlib.Core.Bool.{cond}
 use mathlib.Core.List.{List, [], _∷_}
-use Rattle.stream.specs.Words.{ascii, same, lowered}
+use Rattle.bytes.specs.Words.{ascii, same, lowered}
 use Rattle.names.specs.Keywords.{Keyword, keywords}
 use Rattle.names.specs.declared.Rgb.{Rgb}
 use Rattle.names.specs.declared.Named.{Named}
@@ -20,9 +20,3 @@ lookUp (e ∷ es) w = cond (same w (e .name)) (N.Keyword (channels e)) (lookUp e
 -- letter case ignored
 unfoldable pub namedOf : List ℕ → Named
 namedOf w = lookUp keywords (lowered w)
-
--- what a word names as one number: red, then green, blue and alpha, each 256 times the one before; 4294967296 for no colour
-unfoldable pub packedNamed : Named → ℕ
-packedNamed (N.Keyword c) = c .red + (c .green * 256 + (c .blue * 65536 + 4278190080))
-packedNamed N.Transparent = 0
-packedNamed N.Unknown = 4294967296

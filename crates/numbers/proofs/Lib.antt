@@ -1,5 +1,4 @@
 pub mod Sums
-pub mod Told
 pub mod Steps
 pub mod Shifts
 pub mod Exact

@@ -14,10 +14,10 @@ use lib.Ieee.{Float, nan, inf, fin, Format, binary64, prec, low, emax, up, down,
 use lib.Ieee.Exact.{HasValue, round-exact}
 use lib.Ieee.Fits.{down-pos}
 use lib.Ieee.Scale.{round-same, finite}
-use Rattle.stream.specs.Bytes.{isSpace}
-use Rattle.stream.specs.Scan.{scan}
-use Rattle.stream.specs.declared.Place.{Place}
-use Rattle.stream.proofs.Ranges.{either}
+use Rattle.bytes.specs.Bytes.{isSpace}
+use Rattle.bytes.specs.Scan.{scan}
+use Rattle.bytes.specs.declared.Place.{Place}
+use Rattle.bytes.proofs.Ranges.{either}
 use Rattle.floats.proofs.Bounds.{is-finite}
 use Rattle.numbers.specs.Decimal.{decimal, written, nearest}
 use Rattle.numbers.specs.Digits.{cap}

@@ -6,11 +6,11 @@ use mathlib.Core.Path.{_≡_, refl}
 use borrow.Author.Tests.{lt-leb}
 use lib.Dec.{leb}
 use lib.ListN.{length, getD, drop}
-use Rattle.stream.specs.Flow.{bind}
+use Rattle.bytes.specs.Flow.{bind}
 use Rattle.stream.specs.declared.Fault.{Fault}
-use Rattle.stream.specs.declared.Place.{Place}
-use Rattle.stream.proofs.Ahead.{Ahead, ahead-inside, Stop, here, there, ahead-stop, drop-more, ahead-pass, ahead-scan, ahead-byte, getD-more, scan-more, end-more, digit-stop}
-use Rattle.stream.proofs.Ranges.{either}
+use Rattle.bytes.specs.declared.Place.{Place}
+use Rattle.bytes.proofs.Ahead.{Ahead, ahead-inside, Stop, here, there, ahead-stop, drop-more, ahead-pass, ahead-scan, ahead-byte, getD-more, scan-more, end-more, digit-stop}
+use Rattle.bytes.proofs.Ranges.{either}
 use Rattle.stream.proofs.Sames.{sames, separator-more}
 use Rattle.numbers.specs.Digits.{value}
 use Rattle.numbers.specs.Moves.{thenNumber}

@@ -5,14 +5,16 @@ use mathlib.Core.List.{List, _++_}
 use mathlib.Core.Path.{_≡_, refl}
 use lib.Dec.{eqb}
 use lib.ListN.{length, getD}
-use Rattle.stream.specs.Bytes.{isDigit}
-use Rattle.stream.specs.Flow.{bind}
-use Rattle.stream.specs.Moves.{movePlace, moveFault}
-use Rattle.stream.specs.Scan.{scan}
+use Rattle.bytes.specs.Bytes.{isDigit}
+use Rattle.bytes.specs.Flow.{bind}
+use Rattle.bytes.specs.Moves.{movePlace}
+use Rattle.stream.specs.Moves.{moveFault}
+use Rattle.bytes.specs.Scan.{scan}
 use Rattle.stream.specs.declared.Fault.{Fault}
-use Rattle.stream.specs.declared.Place.{Place}
-use Rattle.stream.proofs.Scans.{scan-shift}
-use Rattle.stream.proofs.Shifts.{shifts, cond-push, curr-shift, separator-shift}
+use Rattle.bytes.specs.declared.Place.{Place}
+use Rattle.bytes.proofs.Scans.{scan-shift}
+use Rattle.bytes.proofs.Shifts.{shifts, cond-push, curr-shift}
+use Rattle.stream.proofs.Shifts.{separator-shift}
 use Rattle.numbers.specs.Moves.{moveNumber, moveNumberRead, thenNumber}
 use Rattle.numbers.specs.Number.{afterSign, mantissaAt, mantissaDot, exponentAt, exponentFrom, finished, scaled, numberFrom, parseNumber, parseNumberOrPercent, afterItem, parseListNumber, parseListNumberOrPercent}
 use Rattle.numbers.specs.declared.Exponent.{Exponent}

@@ -2,17 +2,16 @@
 use Prim.Native.Nat.{ℕ, suc, _+_, _-_, _*_, _≤_, _<_, min}
 use mathlib.Core.Bool.{Bool, true, false, cond}
 use mathlib.Core.List.{List, [], _∷_}
-use mathlib.Core.Path.{_≡_, refl}
+use mathlib.Core.Path.{_≡_, refl, _∙_}
 use mathlib.Core.Logic.{⊎-elim}
 use native.Mathlib.Omega.{arith}
 use lib.ListN.{length, getD, drop, drop-of-length-le}
 use lib.Seq.{drop-cons}
-use Rattle.stream.specs.Bytes.{isDigit}
-use Rattle.stream.specs.Scan.{scan}
-use Rattle.stream.proofs.Ranges.{le-or-lt}
-use Rattle.stream.proofs.Scans.{Scanning, scan-start, scan-go, scan-stop, scan-end}
+use Rattle.bytes.specs.Bytes.{isDigit}
+use Rattle.bytes.specs.Scan.{scan}
+use Rattle.bytes.proofs.Ranges.{le-or-lt}
+use Rattle.bytes.proofs.Scans.{Scanning, scan-start, scan-go, scan-stop, scan-end}
 use Rattle.numbers.specs.Digits.{value, cap}
-use Rattle.numbers.specs.Held.{push}
 
 value-ge : (a : ℕ) (l : List ℕ) → a ≤ value a l
 unfolding value
@@ -41,14 +40,24 @@ pub sum-start : (s : List ℕ) (a at : ℕ) → a ≤ cap → Summing s a at at 
 sum-start s a at h = record { scans = scan-start isDigit s at; sum = refl; small = h }
 
 module _ {s : List ℕ} {a at i acc : ℕ} {r : Bool} (v : Summing s a at i acc) (q : r ≡ isDigit (getD s i 0)) where
-  pub sum-go : {n : ℕ} → n ≡ push acc (getD s i 0) → r ≡ true → i < length s → Summing s a at (i + 1) n
-  unfolding value
-  sum-go {n} w e h =
-      let f : isDigit (getD s i 0) ≡ true = cc in
-      let g : min cap (value (acc * 10 + (getD s i 0 - 48)) (drop (suc i) s)) ≡ min cap (value a (drop at s)) = simp (drop-cons s i 0 h, f) at (v .sum) in
-      let k : min cap (value n (drop (suc i) s)) ≡ min cap (value a (drop at s)) = simp (w, capped) g in
-      let m : i + 1 ≡ suc i = omega arith in
-      record { scans = scan-go (v .scans) q e h; sum = cc; small = omega arith }
+  module _ {m : ℕ} (w : m ≡ acc * 10 + (getD s i 0 - 48)) (e : r ≡ true) (h : i < length s) where
+    sum-next : min cap (value m (drop (suc i) s)) ≡ min cap (value a (drop at s))
+    unfolding value
+    sum-next =
+        let f : isDigit (getD s i 0) ≡ true = cc in
+        rw w (simp (drop-cons s i 0 h, f) at (v .sum))
+
+    pub sum-go : m < cap → Summing s a at (i + 1) m
+    sum-go l =
+        let k : i + 1 ≡ suc i = omega arith in
+        record { scans = scan-go (v .scans) q e h; sum = rw k sum-next; small = omega arith }
+
+    -- at the cap the rest of the digits makes no difference
+    pub sum-held : cap ≤ m → cap ≡ min cap (value a (drop at s))
+    sum-held l = omega (arith, sum-next, value-ge m (drop (suc i) s))
+
+  pub sum-held-end : {end : ℕ} → end ≡ scan isDigit s i → end ≡ scan isDigit s at
+  sum-held-end e = e ∙ v .scans .same
 
   pub sum-stop : r ≡ false → i < length s → acc ≡ min cap (value a (drop at s))
   unfolding value
@@ -70,4 +79,4 @@ module _ {s : List ℕ} {a at i acc : ℕ} (v : Summing s a at i acc) (h : lengt
   pub sum-end-end : i ≡ scan isDigit s at
   sum-end-end = scan-end (v .scans) h
 
-pub ruleset summed = (sum-start, sum-go, sum-stop, sum-stop-end, sum-end, sum-end-end)
+pub ruleset summed = (sum-start, sum-go, sum-held, sum-held-end, sum-stop, sum-stop-end, sum-end, sum-end-end)

@@ -9,18 +9,19 @@ use borrow.Author.Tests.{ltb-true, leb-true, leb-false}
 use lib.Dec.{T, eqb, ltb, leb}
 use lib.Ieee.{Float}
 use lib.ListN.{length, getD, List·getD-eq-default}
-use Rattle.stream.specs.Bytes.{isDigit, isSign, isSpace}
-use Rattle.stream.specs.Faults.{place, parseListSeparator}
-use Rattle.stream.specs.Flow.{bind}
-use Rattle.stream.specs.Scan.{scan}
-use Rattle.stream.specs.Words.{isCurrByteEq}
+use Rattle.bytes.specs.Bytes.{isDigit, isSign, isSpace}
+use Rattle.bytes.specs.Moves.{place}
+use Rattle.stream.specs.Faults.{parseListSeparator}
+use Rattle.bytes.specs.Flow.{bind}
+use Rattle.bytes.specs.Scan.{scan}
+use Rattle.bytes.specs.Words.{isCurrByteEq}
 use Rattle.stream.specs.declared.Fault.{Fault}
-use Rattle.stream.specs.declared.Place.{Place}
-use Rattle.stream.proofs.Ahead.{Ahead, Passes, ahead-pass, pass-here, pass-one, pass-trans, pass-scan, digit-stop}
-use Rattle.stream.proofs.Ranges.{either, le-or-lt}
+use Rattle.bytes.specs.declared.Place.{Place}
+use Rattle.bytes.proofs.Ahead.{Ahead, Passes, ahead-pass, pass-here, pass-one, pass-trans, pass-scan, digit-stop}
+use Rattle.bytes.proofs.Ranges.{either, le-or-lt}
 use Rattle.stream.proofs.Sames.{curr-pass, separator-pass}
-use Rattle.stream.proofs.Scans.{scan-ge, scan-le}
-use Rattle.stream.proofs.Wording.{curr-inside}
+use Rattle.bytes.proofs.Scans.{scan-ge, scan-le}
+use Rattle.bytes.proofs.Wording.{curr-inside}
 use Rattle.floats.proofs.Bounds.{Within, percent-within}
 use Rattle.numbers.specs.Digits.{cap}
 use Rattle.numbers.specs.Moves.{thenNumber}

@@ -5,11 +5,12 @@ use mathlib.Core.List.{[], _∷_}
 use mathlib.Core.Path.{_≡_, refl}
 use lib.IntN.{pos, negsuc}
 use lib.Ieee.{Float, fin, mul, div, neg, ofInt, ofBits}
-use Rattle.stream.specs.Bytes.{within}
-use Rattle.stream.specs.Faults.{place, parseListSeparator}
-use Rattle.stream.specs.Flow.{bind}
-use Rattle.stream.specs.Scan.{scan, run}
-use Rattle.stream.specs.Words.{isCurrByteEq}
+use Rattle.bytes.specs.Bytes.{within}
+use Rattle.bytes.specs.Moves.{place}
+use Rattle.stream.specs.Faults.{parseListSeparator}
+use Rattle.bytes.specs.Flow.{bind}
+use Rattle.bytes.specs.Scan.{scan, run}
+use Rattle.bytes.specs.Words.{isCurrByteEq}
 use Rattle.stream.specs.declared.Trouble.the-variants as T
 use Rattle.numbers.specs.Digits.{value}
 use Rattle.numbers.specs.Powers.{powerOf, powerBits}

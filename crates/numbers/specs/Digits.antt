@@ -2,7 +2,7 @@
 use Prim.Native.Nat.{ℕ, _+_, _-_, _*_}
 use mathlib.Core.Bool.{cond}
 use mathlib.Core.List.{List, [], _∷_}
-use Rattle.stream.specs.Bytes.{isDigit}
+use Rattle.bytes.specs.Bytes.{isDigit}
 
 -- the digits at the front, read on after the value a
 unfoldable pub value : ℕ → List ℕ → ℕ

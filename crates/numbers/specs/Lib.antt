@@ -3,5 +3,4 @@ pub mod Powers
 pub mod Moves
 pub mod Number
 pub mod Held
-pub mod Quick
 pub mod Decimal

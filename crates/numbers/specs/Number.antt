@@ -6,11 +6,12 @@ use lib.Dec.{leb, ltb, eqb}
 use lib.ListN.{length, getD, drop}
 use lib.IntN.{pos}
 use lib.Ieee.{Float, binary64, ofInt, mul, div, neg}
-use Rattle.stream.specs.Bytes.{isDigit, isSign, isSpace}
-use Rattle.stream.specs.Flow.{bind}
-use Rattle.stream.specs.Scan.{scan}
-use Rattle.stream.specs.Words.{isCurrByteEq}
-use Rattle.stream.specs.Faults.{place, troubleAt, unexpectedEnd, parseListSeparator}
+use Rattle.bytes.specs.Bytes.{isDigit, isSign, isSpace}
+use Rattle.bytes.specs.Flow.{bind}
+use Rattle.bytes.specs.Scan.{scan}
+use Rattle.bytes.specs.Words.{isCurrByteEq}
+use Rattle.bytes.specs.Moves.{place}
+use Rattle.stream.specs.Faults.{troubleAt, unexpectedEnd, parseListSeparator}
 use Rattle.stream.specs.declared.Trouble.{Trouble}
 use Rattle.stream.specs.declared.Trouble.the-variants as T
 use Rattle.numbers.specs.Digits.{value, cap}

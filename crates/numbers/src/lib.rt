@@ -1,30 +1,18 @@
 // Decimal text to f64: a number, a number of a list, and either with a `%`.
 ghost use mathlib.Core.Path.{_≡_};
-ghost use mathlib.Core.Bool.{true, cond, not, _||_};
-ghost use Prim.Native.Nat.{_≤_, _<_, min};
-ghost use lib.Dec.{eqb};
+ghost use mathlib.Core.Bool.{true, cond};
+ghost use Prim.Native.Nat.{_+_, _-_, _*_, _≤_, _<_, min};
 ghost use lib.Ieee.{neg};
 ghost use lib.ListN.{drop, length};
-ghost use Rattle.stream.specs.Bytes.{isDigit, isSpace};
-ghost use Rattle.stream.specs.Scan.{scan};
+ghost use Rattle.bytes.specs.Bytes.{isDigit};
+ghost use Rattle.bytes.specs.Scan.{scan};
 ghost use Rattle.numbers.specs.Digits.{cap, value};
-ghost use Rattle.numbers.specs.Held.{wholeNumber, isDecimal, decimalNumber};
-ghost use Rattle.numbers.specs.Number.{startsNumber, scaleOf, valueOf, refusedAt, scaled, finished, parseNumber, parseNumberOrPercent, afterItem, parseListNumber, parseListNumberOrPercent};
+ghost use Rattle.numbers.specs.Powers.{powerOf};
+ghost use Rattle.numbers.specs.Held.{heldMantissa, heldExponent};
+ghost use Rattle.numbers.specs.Number.{startsNumber, afterSign, mantissaAt, exponentFrom, noExponent, exponentAt, scaleOf, valueOf, refusedAt, scaled, finished, numberFrom, parseNumber, parseNumberOrPercent, afterItem, parseListNumber, parseListNumberOrPercent};
+use bytes::Place;
 use stream::Fault;
-use stream::Place;
 use stream::Trouble;
-
-mod digits;
-mod flat;
-
-use digits::LIMIT;
-use digits::after_sign;
-use digits::exponent_at;
-use digits::mantissa_at;
-use digits::read_digits;
-use digits::small_power;
-pub use flat::quick_number;
-pub use flat::quick_whole;
 
 // A number: its value, whether it was written with neither dot nor exponent, and where its own text ended.
 pub struct Number {
@@ -39,16 +27,10 @@ pub enum NumberRead {
     Refused(Fault),
 }
 
-// A number that is told at once: `end` is where its own text ended, 0 where nothing is told.
-pub struct Quick {
-    pub value: f64,
-    pub end: usize,
-}
-
 // A run of digits: where it ends, and its value, held at 2^53.
-struct Run {
-    end: usize,
-    value: u64,
+pub struct Digits {
+    pub end: Place,
+    pub value: u64,
 }
 
 // The digits before an exponent, and how many of them are a fraction; `end` is where the form's longest beginning ends.
@@ -74,10 +56,176 @@ struct Scale {
     by: u64,
 }
 
-fn starts_number(b: u8) -> bool
+// 2^53, which M stays below.
+pub const LIMIT: u64 = 9_007_199_254_740_992;
+
+// The powers of ten that an f64 holds exactly.
+const POWERS: [f64; 23] = [
+    1.0,
+    1e1,
+    1e2,
+    1e3,
+    1e4,
+    1e5,
+    1e6,
+    1e7,
+    1e8,
+    1e9,
+    1e10,
+    1e11,
+    1e12,
+    1e13,
+    1e14,
+    1e15,
+    1e16,
+    1e17,
+    1e18,
+    1e19,
+    1e20,
+    1e21,
+    1e22,
+];
+
+pub fn power(k: usize) -> f64
+    requires { ⌜ k < 23 ⌝ }
+    ensures { λ r. ⌜ r ≡ powerOf k ⌝ }
+{
+    POWERS[k]
+}
+
+// One digit more.
+fn push_digit(a: u64, b: u8) -> u64
+    requires { ⌜ (a ≤ cap) × (true ≡ isDigit b) ⌝ }
+    ensures { λ r. ⌜ r ≡ a * 10 + (b - 48) ⌝ }
+{
+    a * 10 + ((b - b'0') as u64)
+}
+
+// The digits at a place, read on after the value a; at 2^53 it is held, so that no run of digits overflows.
+pub fn read_digits(text: &[u8], at: Place, a: u64) -> Digits
+    requires { ⌜ a ≤ cap ⌝ }
+    ensures { λ r. ⌜ (r .end .0 ≡ scan isDigit (now (text .entry)) (at .0)) × (r .value ≡ min cap (value a (drop (at .0) (now (text .entry))))) ⌝ }
+{
+    let mut i = at.0;
+    let mut n = a;
+    while i < text.len() {
+        let b = text[i];
+        if bytes::is_digit(b) {
+            let m = push_digit(n, b);
+            if m < LIMIT {
+                n = m;
+                i += 1;
+            } else {
+                return Digits {
+                    end: bytes::skip_digits(text, Place(i)),
+                    value: LIMIT,
+                };
+            }
+        } else {
+            return Digits {
+                end: Place(i),
+                value: n,
+            };
+        }
+    }
+    Digits {
+        end: Place(i),
+        value: n,
+    }
+}
+
+// Whether a number may start with a byte.
+pub fn starts_number(b: u8) -> bool
     ensures { λ r. ⌜ r ≡ startsNumber b ⌝ }
 {
-    stream::is_digit(b) | (stream::is_sign(b) | (b == b'.'))
+    bytes::is_digit(b) | (bytes::is_sign(b) | (b == b'.'))
+}
+
+// The place after an optional sign.
+pub fn after_sign(text: &[u8], at: Place) -> Place
+    ensures { λ r. ⌜ r .0 ≡ afterSign (now (text .entry)) (at .0) ⌝ }
+{
+    let i = at.0;
+    if i < text.len() {
+        if bytes::is_sign(text[i]) {
+            return Place(i + 1);
+        }
+    }
+    at
+}
+
+fn mantissa_at(text: &[u8], at: Place) -> Mantissa
+    ensures { λ r. ⌜ r ≡ heldMantissa (mantissaAt (now (text .entry)) (at .0)) ⌝ }
+{
+    let whole = read_digits(text, at, 0);
+    let i = at.0;
+    let dot = whole.end.0;
+    let n = whole.value;
+    if bytes::byte_at(text, dot) == b'.' {
+        let next = dot + 1;
+        let part = read_digits(text, Place(next), n);
+        let end = part.end.0;
+        return Mantissa {
+            ok: next < end,
+            value: part.value,
+            fraction: end - next,
+            dotted: true,
+            end,
+        };
+    }
+    Mantissa {
+        ok: i < dot,
+        value: n,
+        fraction: 0,
+        dotted: false,
+        end: dot,
+    }
+}
+
+fn exponent_from(text: &[u8], from: Place, minus: bool) -> Exponent
+    ensures { λ r. ⌜ r ≡ heldExponent (exponentFrom (now (text .entry)) (from .0) minus) ⌝ }
+{
+    let d = read_digits(text, from, 0);
+    let i = from.0;
+    let end = d.end.0;
+    Exponent {
+        ok: i < end,
+        minus,
+        value: d.value,
+        written: true,
+        end,
+    }
+}
+
+fn no_exponent(at: usize) -> Exponent
+    ensures { λ r. ⌜ r ≡ noExponent at ⌝ }
+{
+    Exponent {
+        ok: true,
+        minus: false,
+        value: 0,
+        written: false,
+        end: at,
+    }
+}
+
+fn exponent_at(text: &[u8], at: usize) -> Exponent
+    ensures { λ r. ⌜ r ≡ heldExponent (exponentAt (now (text .entry)) at) ⌝ }
+{
+    if text.len() <= at {
+        return no_exponent(at);
+    }
+    let b = text[at];
+    if !((b == b'e') | (b == b'E')) {
+        return no_exponent(at);
+    }
+    let next = at + 1;
+    let c = bytes::byte_at(text, next);
+    // `em` and `ex` are units
+    if (c == b'm') | (c == b'x') {
+        return no_exponent(at);
+    }
+    exponent_from(text, after_sign(text, Place(next)), c == b'-')
 }
 
 fn scale_of(minus: bool, e: u64, f: u64) -> Scale
@@ -114,7 +262,7 @@ fn value_of(minus: bool, m: u64, down: bool, by: usize) -> f64
     ensures { λ r. ⌜ r ≡ valueOf minus m down by ⌝ }
 {
     let x = m as f64;
-    let p = small_power(by);
+    let p = power(by);
     if down {
         return signed(minus, x / p);
     }
@@ -166,128 +314,32 @@ fn finish(minus: bool, m: Mantissa, e: Exponent, start: Place) -> NumberRead
     refused_at(Trouble::TooLarge, start, end)
 }
 
-// Whether a run of digits ends with this byte after it: neither a fraction nor an exponent may follow.
-fn ends_whole(b: u8) -> bool
-    ensures { λ r. ⌜ r ≡ not (eqb b 46 || (eqb b 101 || eqb b 69)) ⌝ }
-{
-    !((b == b'.') | ((b == b'e') | (b == b'E')))
-}
-
-fn whole_number(minus: bool, m: u64, end: usize) -> NumberRead
-    requires { ⌜ m < cap ⌝ }
-    ensures { λ r. ⌜ r ≡ wholeNumber minus m end ⌝ }
-{
-    let value = value_of(minus, m, false, 0);
-    NumberRead::Value(
-        Number {
-            value,
-            whole: true,
-            end: Place(end),
-        },
-        Place(end),
-    )
-}
-
-fn is_e(b: u8) -> bool
-    ensures { λ r. ⌜ r ≡ (eqb b 101 || eqb b 69) ⌝ }
-{
-    (b == b'e') | (b == b'E')
-}
-
-// The digits at `from`: without a sign before them they are those that were read at `i`.
-fn digits_after(text: &[u8], i: usize, from: usize, last: usize, n: u64) -> Run
-    requires { ⌜ last ≡ scan isDigit (now text) i ⌝ }
-    requires { ⌜ n ≡ min cap (value 0 (drop i (now text))) ⌝ }
-    ensures { λ r. ⌜ (r .end ≡ scan isDigit (now (text .entry)) from) × (r .value ≡ min cap (value 0 (drop from (now (text .entry))))) ⌝ }
-{
-    if from == i {
-        return Run {
-            end: last,
-            value: n,
-        };
-    }
-    read_digits(text, from, 0)
-}
-
-// Whether digits with a fraction are all of a number that needs no refusal; b is the byte after them.
-fn is_decimal(m: Mantissa, b: u8) -> bool
-    ensures { λ r. ⌜ r ≡ isDecimal m b ⌝ }
-{
-    (m.ok & m.dotted) & ((m.value < LIMIT) & ((m.fraction <= 22) & !is_e(b)))
-}
-
-fn decimal_number(minus: bool, m: Mantissa) -> NumberRead
-    requires { ⌜ (m .value < cap) × (m .fraction < 23) ⌝ }
-    ensures { λ r. ⌜ r ≡ decimalNumber minus m ⌝ }
-{
-    let value = value_of(minus, m.value, true, m.fraction);
-    let end = m.end;
-    NumberRead::Value(
-        Number {
-            value,
-            whole: false,
-            end: Place(end),
-        },
-        Place(end),
-    )
-}
-
-// The number whose first byte is at `start`, where a run of digits, which may be empty, has been read.
-// Whole numbers and short decimals are told before an exponent is looked for.
-fn number_rest(text: &[u8], start: Place, last: usize, n: u64) -> NumberRead
+fn number_from(text: &[u8], start: Place) -> NumberRead
     requires { ⌜ length (now text) ≤ 4096 ⌝ }
-    requires { ⌜ scan isSpace (now text) (start .0) ≡ start .0 ⌝ }
-    requires { ⌜ last ≡ scan isDigit (now text) (start .0) ⌝ }
-    requires { ⌜ n ≡ min cap (value 0 (drop (start .0) (now text))) ⌝ }
-    ensures { λ r. ⌜ r ≡ parseNumber (now (text .entry)) (start .0) ⌝ }
+    ensures { λ r. ⌜ r ≡ numberFrom (now (text .entry)) (start .0) ⌝ }
 {
     let i = start.0;
-    if text.len() <= i {
-        return refused_at(Trouble::TextEnded, start, i);
-    }
-    let b = text[i];
-    if !starts_number(b) {
-        return refused_at(Trouble::WrongByte, start, i);
-    }
-    let from = after_sign(text, i);
-    let whole = digits_after(text, i, from, last, n);
-    let dot = whole.end;
-    let v = whole.value;
-    if ends_whole(stream::byte_at(text, dot)) & ((from < dot) & (v < LIMIT)) {
-        return whole_number(b == b'-', v, dot);
-    }
-    let m = mantissa_at(text, from, whole);
+    let b = bytes::byte_at(text, i);
+    let m = mantissa_at(text, after_sign(text, start));
     let end = m.end;
-    if is_decimal(m, stream::byte_at(text, end)) {
-        return decimal_number(b == b'-', m);
-    }
-    finish(b == b'-', m, exponent_at(text, end), start)
+    let e = exponent_at(text, end);
+    finish(b == b'-', m, e, start)
 }
 
-// A number where no space is: the caller has skipped them.
-pub fn number_from(text: &[u8], start: Place) -> NumberRead
-    requires { ⌜ length (now text) ≤ 4096 ⌝ }
-    requires { ⌜ scan isSpace (now text) (start .0) ≡ start .0 ⌝ }
-    ensures { λ r. ⌜ r ≡ parseNumber (now (text .entry)) (start .0) ⌝ }
-{
-    let d = read_digits(text, start.0, 0);
-    number_rest(text, start, d.end, d.value)
-}
-
-// A number, spaces before it skipped. Most are digits alone: they are told before anything else is looked for.
+// A number, spaces before it skipped.
 pub fn parse_number(text: &[u8], at: Place) -> NumberRead
     requires { ⌜ length (now text) ≤ 4096 ⌝ }
     ensures { λ r. ⌜ r ≡ parseNumber (now (text .entry)) (at .0) ⌝ }
 {
-    let start = stream::skip_spaces(text, at);
+    let start = bytes::skip_spaces(text, at);
     let i = start.0;
-    let d = read_digits(text, i, 0);
-    let n = d.value;
-    let last = d.end;
-    if (i < last) & ((n < LIMIT) & ends_whole(stream::byte_at(text, last))) {
-        return whole_number(false, n, last);
+    if text.len() <= i {
+        return refused_at(Trouble::TextEnded, start, i);
     }
-    number_rest(text, start, last, n)
+    if starts_number(text[i]) {
+        return number_from(text, start);
+    }
+    refused_at(Trouble::WrongByte, start, i)
 }
 
 // A number, and a `%` directly after it: its hundredth then.
@@ -298,7 +350,7 @@ pub fn parse_number_or_percent(text: &[u8], at: Place) -> NumberRead
     match parse_number(text, at) {
         NumberRead::Refused(e) => NumberRead::Refused(e),
         NumberRead::Value(n, p) => {
-            if stream::is_curr_byte_eq(text, p, b'%') {
+            if bytes::is_curr_byte_eq(text, p, b'%') {
                 let i = p.0;
                 let end = n.end;
                 return NumberRead::Value(
@@ -322,17 +374,8 @@ fn after_item(text: &[u8], read: NumberRead) -> NumberRead
     match read {
         NumberRead::Refused(e) => NumberRead::Refused(e),
         NumberRead::Value(n, p) => {
-            let next = stream::skip_spaces(text, p);
-            // Field by field: a number copied whole takes the bytes between its fields along.
-            let end = n.end;
-            NumberRead::Value(
-                Number {
-                    value: n.value,
-                    whole: n.whole,
-                    end,
-                },
-                stream::parse_list_separator(text, next),
-            )
+            let next = bytes::skip_spaces(text, p);
+            NumberRead::Value(n, stream::parse_list_separator(text, next))
         }
     }
 }

@@ -1,24 +1,24 @@
 -- From which place on a fault's places count: a place of the text where a character starts.
 use Prim.Native.Nat.{ℕ, zero, suc, _≤_, _<_}
-use mathlib.Core.Bool.{Bool, true, false, _||_, cond}
+use mathlib.Core.Bool.{Bool, true, false, cond}
 use mathlib.Core.List.{List, [], _∷_}
 use mathlib.Core.Path.{_≡_, refl, sym}
 use native.Mathlib.Omega.{arith}
-use borrow.Author.Tests.{eqb-true, leb-false}
-use lib.Dec.{eqb, leb}
+use borrow.Author.Tests.{leb-false}
+use lib.Dec.{leb}
 use lib.ListN.{length, getD, drop}
-use Rattle.stream.specs.Bytes.{isSpace, isTail, within}
-use Rattle.stream.specs.Characters.{charLen, walk, utf8Of}
-use Rattle.stream.specs.Faults.{place}
-use Rattle.stream.specs.Flow.{bind}
-use Rattle.stream.specs.Scan.{scan}
+use Rattle.bytes.specs.Bytes.{isSpace, isTail, within}
+use Rattle.utf8.specs.Characters.{charLen, walk, utf8Of}
+use Rattle.bytes.specs.Moves.{place}
+use Rattle.bytes.specs.Flow.{bind}
+use Rattle.bytes.specs.Scan.{scan}
 use Rattle.stream.specs.declared.Fault.{Fault}
-use Rattle.stream.specs.declared.Part.{Part}
-use Rattle.stream.specs.declared.Place.{Place}
-use Rattle.stream.specs.declared.Utf8.the-variants.{WellFormed}
-use Rattle.stream.proofs.Cuts.{after-ascii, scan-on}
-use Rattle.stream.proofs.Octets.{char-first}
-use Rattle.stream.proofs.Parts.{byte-inside}
+use Rattle.bytes.specs.declared.Part.{Part}
+use Rattle.bytes.specs.declared.Place.{Place}
+use Rattle.utf8.specs.declared.Utf8.the-variants.{WellFormed}
+use Rattle.utf8.proofs.Cuts.{after-ascii, scan-on}
+use Rattle.utf8.proofs.Octets.{char-first}
+use Rattle.bytes.proofs.Parts.{byte-inside}
 use Rattle.color.specs.Moves.{thenColor}
 use Rattle.color.specs.declared.Color.{Color}
 use Rattle.color.specs.declared.ColorRead.{ColorRead}
@@ -32,6 +32,7 @@ use Rattle.paint.specs.Reading.{parseFallback, parseLinked, parsePlain, 
 use Rattle.paint.specs.declared.Paint.{Paint}
 use Rattle.paint.specs.declared.PaintRead.{PaintRead}
 use Rattle.paint.specs.declared.PaintRead.the-variants as R
+use Rattle.bytes.proofs.Wording.{space-ascii}
 
 -- a fault's base has the property P
 data Based (P : ℕ → Type 0) : PaintRead → Type 0 where
@@ -84,18 +85,6 @@ module _ (P : ℕ → Type 0) (t : List ℕ) (start : P 0)
 
 pub parse-paint-inside : (t : List ℕ) {e : Fault} {b : Place} → parsePaint t ≡ R.Refused e b → b .0 ≤ length t
 parse-paint-inside t q = based (paint-based (λ n. n ≤ length t) t (omega arith) (λ l p e h. omega arith)) q
-
-pub or-either : {C : Type 0} (t u : Bool) → (t ≡ true → C) → (u ≡ true → C) → (t || u) ≡ true → C
-or-either true u f g e = f refl
-or-either false u f g e = g e
-
-pub space-ascii : (x : ℕ) → isSpace x ≡ true → x < 128
-space-ascii x =
-    or-either (eqb x 32) _ (byte 32 (omega arith))
-    (or-either (eqb x 9) _ (byte 9 (omega arith)) (or-either (eqb x 10) _ (byte 10 (omega arith)) (byte 13 (omega arith))))
-  where
-    byte : (n : ℕ) → n < 128 → eqb x n ≡ true → x < 128
-    byte n h e = omega (arith, eqb-true x n e)
 
 -- a UTF-8 text starts with a character, or is empty
 start-on : (t : List ℕ) → utf8Of t ≡ WellFormed → isTail (getD t 0 0) ≡ false

@@ -1,10 +1,4 @@
 pub mod Bases
-pub mod Bounds
-pub mod Firsts
 pub mod Inside
-pub mod Links
-pub mod Packs
 pub mod Steps
-pub mod Trims
-pub mod Wholes
 pub mod Worked

@@ -1,32 +1,27 @@
 -- Rules for `search`: the returns of the readers and of the outside calls.
-use Prim.Native.Nat.{ℕ, _+_, _-_, _≤_, _<_}
+use Prim.Native.Nat.{ℕ, _-_, _≤_}
 use mathlib.Core.Bool.{Bool, true, false, cond}
 use mathlib.Core.List.{List, []}
 use mathlib.Core.Path.{_≡_, refl, sym, ap, _∙_}
 use native.Mathlib.Omega.{arith}
 use lib.ListN.{length, take, drop, length-drop}
 use lib.Seq.{length-take-le}
-use Rattle.stream.specs.Blanks.{trimStart, trimEnd, trimPart, trimOf}
-use Rattle.stream.specs.Characters.{utf8Of}
-use Rattle.stream.specs.Faults.{place}
-use Rattle.stream.specs.Moves.{movePart}
+use Rattle.utf8.specs.Blanks.{trimStart, trimEnd, trimPart, trimOf}
+use Rattle.utf8.specs.Characters.{utf8Of}
+use Rattle.bytes.specs.Moves.{movePart}
 use Rattle.stream.specs.Refusals.{refusalOf}
 use Rattle.stream.specs.declared.Fault.{Fault}
-use Rattle.stream.specs.declared.Part.{Part}
-use Rattle.stream.specs.declared.Place.{Place}
+use Rattle.bytes.specs.declared.Part.{Part}
+use Rattle.bytes.specs.declared.Place.{Place}
 use Rattle.stream.specs.declared.Refusal.{Refusal}
-use Rattle.stream.specs.declared.Utf8.the-variants.{WellFormed}
-use Rattle.stream.proofs.Cuts.{trim-utf8, utf8-drop}
+use Rattle.utf8.specs.declared.Utf8.the-variants.{WellFormed}
+use Rattle.utf8.proofs.Cuts.{trim-utf8, utf8-drop}
 use Rattle.stream.proofs.Edges.{admitted-small, admitted-utf8}
-use Rattle.stream.proofs.Parts.{rest-part}
-use Rattle.stream.proofs.Trimming.{trimStart-le, trimEnd-le, trim-count}
-use Rattle.funciri.specs.Link.{linkAt, parseFuncIri}
-use Rattle.funciri.specs.Quick.{orTold}
-use Rattle.funciri.proofs.Told.{told-read, told-past, told-next}
+use Rattle.bytes.proofs.Parts.{rest-part}
+use Rattle.utf8.proofs.Trimming.{trimStart-le, trimEnd-le}
 use Rattle.paint.specs.Answers.{isInherit, fromStr, inheritedOf, bytesOf, chosenBytes, inheritedPart}
-use Rattle.paint.specs.Linked.{afterLink}
 use Rattle.paint.specs.Moves.{linkStart, movePaint, thenPaintRead, thenPaintAnswer}
-use Rattle.paint.specs.Reading.{parseFallback, parseLinked, parsePaint}
+use Rattle.paint.specs.Reading.{parseFallback, parsePaint}
 use Rattle.paint.specs.declared.Inheritance.{Inheritance}
 use Rattle.paint.specs.declared.Inheritance.the-variants as I
 use Rattle.paint.specs.declared.Paint.{Paint}
@@ -49,13 +44,6 @@ pub fallback-part : (t : List ℕ) (i : ℕ) (l : Part) (b : Place) {r : PaintRe
 fallback-part t i l b h = rw rest-part at h
 
 pub ruleset reads = (paint-refused, fallback-part)
-
--- a link that is told at once, with its bracket at e
-pub linked-told : (t : List ℕ) (e : ℕ) {x : PaintRead} → 0 < e → orTold e (parseFuncIri t 0) ≡ parseFuncIri t 0 → x ≡ afterLink t (linkAt (place 5) (e - 5)) (place (e + 1)) → x ≡ parseLinked t
-unfolding parseLinked
-linked-told t e h q f = rw (told-read t e h q) f
-
-pub ruleset quick = (linked-told, told-past, told-next)
 
 module _ (l : Part) (v : Paint) (f : PaintFallback) (e : v ≡ P.FuncIRI l f) where
   pub link-near : linkStart v ≤ 4096 → l .start .0 ≤ 4096
@@ -99,22 +87,6 @@ pub trim-near : (p : Part) (s : List ℕ) → p ≡ trimPart s → length s ≤ 
 unfolding trimPart
 trim-near p s q h = rw q (omega (arith, trimStart-le s (trimStart s) refl))
 
--- the part that trimming leaves, as the code takes it out of the text
-module _ (p : Part) (s : List ℕ) (q : p ≡ trimPart s) where
-  pub trim-from : p .start .0 ≤ length s
-  unfolding trimPart
-  trim-from = rw q (trimStart-le s (trimStart s) refl)
-
-  pub trim-taken : take (p .len) (take (length s - p .start .0) (drop (p .start .0) s)) ≡ trimOf s
-  unfolding trimPart trimOf
-  trim-taken = rw (q, rest-part)
-
-  pub trim-counted : p .len ≡ length (take (p .len) (take (length s - p .start .0) (drop (p .start .0) s)))
-  unfolding trimPart
-  trim-counted =
-      let d = drop (trimStart s) s in
-      rw (q, rest-part) (trim-count d (trimEnd d) refl)
-
 -- the bytes from a fault's base on
 module _ (t : List ℕ) (b : Place) {e : Fault} {r : PaintRead} (f : r ≡ R.Refused e b) (q : r ≡ parsePaint t) where
   pub base-inside : b .0 ≤ length t
@@ -128,7 +100,7 @@ module _ (t : List ℕ) (b : Place) {e : Fault} {r : PaintRead} (f : r ≡ R.Ref
 pub link-inside : (t : List ℕ) (v : Paint) {r : PaintRead} → r ≡ R.Value v → r ≡ parsePaint t → (s : List ℕ) → t ≡ trimOf s → length s ≤ 4096 → linkStart v ≤ 4096
 link-inside t v f q s w h = omega (arith, parse-paint-link t (sym q ∙ f), trim-small t s w h)
 
-pub ruleset cuts = (trim-from, trim-taken, trim-counted, trim-small, trim-near, link-inside, base-inside, base-utf8, admitted-small, admitted-utf8)
+pub ruleset cuts = (trim-small, trim-near, link-inside, base-inside, base-utf8, admitted-small, admitted-utf8)
 
 pub answer-refused : (t : List ℕ) (i : ℕ) (e : Fault) {x : Refusal} → x ≡ refusalOf (take (length t - i) (drop i t)) e → A.Refused x ≡ A.Refused (refusalOf (drop i t) e)
 answer-refused t i e h = rw (h, rest-part)

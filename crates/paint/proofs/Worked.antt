@@ -1,11 +1,11 @@
 -- Worked examples: the five words, with white space around them.
 use mathlib.Core.List.{[], _∷_, _++_}
 use mathlib.Core.Path.{_≡_, refl}
-use Rattle.stream.specs.Bytes.{within}
-use Rattle.stream.specs.Flow.{bind}
-use Rattle.stream.specs.Words.{ascii, same}
-use Rattle.stream.specs.Characters.{keeps, rowOf, lenAt, charLen, walk, utf8Of}
-use Rattle.stream.specs.Blanks.{blank1, blank2, blank3, blankLen, blankAt, byteBefore, blankEnd, blankBefore, front, trimStart, back, trimEnd, trimPart, trimOf}
+use Rattle.bytes.specs.Bytes.{within}
+use Rattle.bytes.specs.Flow.{bind}
+use Rattle.bytes.specs.Words.{ascii, same}
+use Rattle.utf8.specs.Characters.{keeps, rowOf, lenAt, charLen, walk, utf8Of}
+use Rattle.utf8.specs.Blanks.{blank1, blank2, blank3, blankLen, blankAt, byteBefore, blankEnd, blankBefore, front, trimStart, back, trimEnd, trimPart, trimOf}
 use Rattle.stream.specs.Refusals.{admitUtf8, admitText}
 use Rattle.paint.specs.Moves.{movePaint}
 use Rattle.paint.specs.Reading.{parsePaint}

@@ -3,10 +3,10 @@ use Prim.Native.Nat.{ℕ}
 use mathlib.Core.Bool.{Bool, true, false, cond}
 use mathlib.Core.List.{List, []}
 use lib.ListN.{take, drop}
-use Rattle.stream.specs.Blanks.{trimStart, trimPart, trimOf}
-use Rattle.stream.specs.Flow.{bind}
+use Rattle.utf8.specs.Blanks.{trimStart, trimPart, trimOf}
+use Rattle.bytes.specs.Flow.{bind}
 use Rattle.stream.specs.Refusals.{refusalOf, admitText, thenAdmitted}
-use Rattle.stream.specs.declared.Part.{Part}
+use Rattle.bytes.specs.declared.Part.{Part}
 use Rattle.paint.specs.Moves.{movePaint, thenPaintRead, thenPaintAnswer}
 use Rattle.paint.specs.Reading.{parsePaint}
 use Rattle.paint.specs.declared.Inheritance.{Inheritance}

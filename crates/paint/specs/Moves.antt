@@ -1,8 +1,8 @@
 -- A paint moved by n bytes, and going on with a paint.
 use Prim.Native.Nat.{ℕ}
-use Rattle.stream.specs.Moves.{movePart}
+use Rattle.bytes.specs.Moves.{movePart}
 use Rattle.stream.specs.declared.Fault.{Fault}
-use Rattle.stream.specs.declared.Place.{Place}
+use Rattle.bytes.specs.declared.Place.{Place}
 use Rattle.stream.specs.declared.Refusal.{Refusal}
 use Rattle.paint.specs.declared.Paint.{Paint}
 use Rattle.paint.specs.declared.Paint.the-variants as P
@@ -20,16 +20,6 @@ linkStart P.CurrentColor = 0
 linkStart P.ContextFill = 0
 linkStart P.ContextStroke = 0
 linkStart (P.Color c) = 0
-
--- how long it is, 0 for none
-unfoldable pub linkLen : Paint → ℕ
-linkLen (P.FuncIRI link f) = link .len
-linkLen P.None = 0
-linkLen P.Inherit = 0
-linkLen P.CurrentColor = 0
-linkLen P.ContextFill = 0
-linkLen P.ContextStroke = 0
-linkLen (P.Color c) = 0
 
 -- "A link's place counts from the lent text, in a paint too"
 unfoldable pub movePaint : ℕ → Paint → Paint

@@ -1,7 +1,7 @@
 -- Document 01's record of each outside answer: "a result of zeros with an empty link" for a refusal.
 use Prim.Native.Nat.{ℕ}
 use Rattle.stream.specs.Refusals.{bareRefusal}
-use Rattle.stream.specs.declared.Part.{Part}
+use Rattle.bytes.specs.declared.Part.{Part}
 use Rattle.stream.specs.declared.Refusal.{Refusal}
 use Rattle.color.specs.declared.Color.{Color}
 use Rattle.paint.specs.declared.Inheritance.{Inheritance}

@@ -4,14 +4,15 @@ use mathlib.Core.Bool.{cond}
 use mathlib.Core.List.{List}
 use lib.Dec.{leb}
 use lib.ListN.{length, drop}
-use Rattle.stream.specs.Bytes.{isSpace}
-use Rattle.stream.specs.Faults.{place, invalidValue}
-use Rattle.stream.specs.Flow.{bind}
+use Rattle.bytes.specs.Bytes.{isSpace}
+use Rattle.bytes.specs.Moves.{place}
+use Rattle.stream.specs.Faults.{invalidValue}
+use Rattle.bytes.specs.Flow.{bind}
 use Rattle.stream.specs.Refusals.{isOutsideDomain}
-use Rattle.stream.specs.Scan.{scan}
-use Rattle.stream.specs.Words.{ascii, same, startsWith}
-use Rattle.stream.specs.declared.Part.{Part}
-use Rattle.stream.specs.declared.Place.{Place}
+use Rattle.bytes.specs.Scan.{scan}
+use Rattle.bytes.specs.Words.{ascii, same, startsWith}
+use Rattle.bytes.specs.declared.Part.{Part}
+use Rattle.bytes.specs.declared.Place.{Place}
 use Rattle.color.specs.Color.{parseColorText}
 use Rattle.color.specs.Moves.{thenColor}
 use Rattle.funciri.specs.Link.{parseFuncIri}

@@ -1,160 +1,91 @@
-// A case line, taken apart.
-use stream::Place;
+// A case line, taken apart, and its answer.
+use crate::calls;
+use crate::fields;
+use crate::fields::Number;
+use crate::lines;
+use crate::out::Line;
+use crate::words::bytes_between;
+use crate::words::word_end;
+use bytes::Place;
 
-pub enum Call {
-    Color,
-    Length,
-    Lengths,
-    Angle,
-    Iri,
-    FuncIri,
-    Paint,
-    Inherit,
-    Filter,
-    Unknown,
+fn text_line(out: &mut Line, call: u64, text: &[u8], place: Place) -> usize {
+    let mut row = [0u64; 24];
+    calls::write_row(&mut row, call, text, place);
+    lines::put_row(out, call, &row, text)
 }
 
-pub enum Number {
-    Value(usize),
-    Wrong,
-}
-
-// The bytes from one place to another, none where there is no such part.
-pub fn bytes_between(line: &[u8], from: usize, to: usize) -> &[u8] {
-    if from <= to {
-        if to <= line.len() {
-            return &line[from..to];
-        }
-    }
-    &line[0..0]
-}
-
-// The end of the field that starts at a place.
-pub fn field_end(line: &[u8], from: usize) -> usize {
-    let end = stream::skip_to_space(line, Place(from));
-    end.0
-}
-
-pub fn call_of(word: &[u8]) -> Call {
-    if stream::equals(word, b"color") {
-        return Call::Color;
-    }
-    if stream::equals(word, b"length") {
-        return Call::Length;
-    }
-    if stream::equals(word, b"lengths") {
-        return Call::Lengths;
-    }
-    if stream::equals(word, b"angle") {
-        return Call::Angle;
-    }
-    other_call(word)
-}
-
-fn other_call(word: &[u8]) -> Call {
-    if stream::equals(word, b"iri") {
-        return Call::Iri;
-    }
-    if stream::equals(word, b"funciri") {
-        return Call::FuncIri;
-    }
-    if stream::equals(word, b"paint") {
-        return Call::Paint;
-    }
-    if stream::equals(word, b"inherit") {
-        return Call::Inherit;
-    }
-    if stream::equals(word, b"filter") {
-        return Call::Filter;
-    }
-    Call::Unknown
-}
-
-// One digit more of a decimal number, or that it is too large.
-fn digit_more(n: usize, b: u8) -> Number {
-    match b {
-        b'0'..=b'9' => {
-            let d = wide(b - b'0') % 10;
-            if n < 1_844_674_407_370_955_161 {
-                return Number::Value(n * 10 + d);
-            }
-            if n == 1_844_674_407_370_955_161 {
-                if d <= 5 {
-                    return Number::Value(18_446_744_073_709_551_610 + d);
-                }
-            }
-            Number::Wrong
-        }
-        _ => Number::Wrong,
+// A call on one text.
+fn one_text(out: &mut Line, call: u64, field: &[u8], place: Place) -> usize {
+    let mut space = [0; fields::TEXT];
+    match fields::decode(field, &mut space) {
+        Number::Value(n) => text_line(out, call, fields::first(&space, n), place),
+        Number::Wrong => 0,
     }
 }
 
-fn wide(x: u8) -> usize {
-    x as usize
-}
-
-// A place: decimal digits, at most 2^64 - 1.
-pub fn decimal(field: &[u8]) -> Number {
-    if field.len() == 0 {
-        return Number::Wrong;
+// A step of a list: the place stands before the text.
+fn placed_text(out: &mut Line, call: u64, fields: &[u8]) -> usize {
+    let end = word_end(fields, 0);
+    if fields.len() <= end {
+        return 0;
     }
-    let mut n: usize = 0;
-    let mut i: usize = 0;
-    while i < field.len() {
-        let Number::Value(m) = digit_more(n, field[i]) else {
-            return Number::Wrong;
-        };
-        n = m;
-        i += 1;
-    }
-    Number::Value(n)
-}
-
-// The value of a lower-case hex digit, 16 for another byte.
-fn digit_value(b: u8) -> u8 {
-    match b {
-        b'0'..=b'9' => b - b'0',
-        b'a'..=b'f' => b - b'a' + 10,
-        _ => 16,
+    match fields::decimal(bytes_between(fields, 0, end)) {
+        Number::Value(place) => one_text(out, call, &fields[end + 1..], Place(place)),
+        Number::Wrong => 0,
     }
 }
 
-// The byte of two hex digits, or 256.
-fn pair_value(high: u8, low: u8) -> u16 {
-    let h = digit_value(high);
-    let l = digit_value(low);
-    if h < 16 {
-        if l < 16 {
-            return (h as u16) * 16 + (l as u16);
-        }
+// The text that the inherit rule's answer speaks of, by its number.
+const PARENT: u64 = 2;
+
+fn text_of<'a>(whose: u64, own: &'a [u8], parent: &'a [u8]) -> &'a [u8] {
+    if whose == PARENT {
+        return parent;
     }
-    256
+    own
 }
 
-// The text that a field stands for, at the start of `text`, and its length. A field that is no hex is wrong, and so is one
-// that does not fit.
-pub fn decode(field: &[u8], text: &mut [u8]) -> Number {
-    if stream::equals(field, b"-") {
-        return Number::Value(0);
+fn inherit_line<'a>(out: &mut Line, own: &'a [u8], parent: &'a [u8]) -> usize {
+    let mut row = [0u64; 24];
+    calls::write_inherited(&mut row, own, parent);
+    let text = text_of(row[lines::RESULT], own, parent);
+    lines::put_row(out, calls::INHERIT, &row, text)
+}
+
+// The inherit rule on an element's own text and a field with its parent's.
+fn with_parent(out: &mut Line, own: &[u8], field: &[u8]) -> usize {
+    let mut space = [0; fields::TEXT];
+    match fields::decode(field, &mut space) {
+        Number::Value(n) => inherit_line(out, own, fields::first(&space, n)),
+        Number::Wrong => 0,
     }
-    if field.len() == 0 {
-        return Number::Wrong;
+}
+
+// The inherit rule: the own text stands before the parent's.
+fn two_texts(out: &mut Line, fields: &[u8]) -> usize {
+    let end = word_end(fields, 0);
+    if fields.len() <= end {
+        return 0;
     }
-    let mut k: usize = 0;
-    let mut i: usize = 0;
-    while i < field.len() {
-        if field.len() - i < 2 {
-            return Number::Wrong;
-        }
-        let b = pair_value(field[i], field[i + 1]);
-        if 256 <= b {
-            return Number::Wrong;
-        }
-        if text.len() <= k {
-            return Number::Wrong;
-        }
-        k = crate::out::put(text, k, (b % 256) as u8);
-        i += 2;
+    let mut space = [0; fields::TEXT];
+    match fields::decode(bytes_between(fields, 0, end), &mut space) {
+        Number::Value(n) => with_parent(out, fields::first(&space, n), &fields[end + 1..]),
+        Number::Wrong => 0,
     }
-    Number::Value(k)
+}
+
+// The answer line of a case, with a space before it; 0 bytes where the line is none.
+pub fn case_line(out: &mut Line, line: &[u8]) -> usize {
+    let end = word_end(line, 0);
+    if line.len() <= end {
+        return 0;
+    }
+    let fields = &line[end + 1..];
+    let call = calls::call_of(bytes_between(line, 0, end));
+    match call {
+        calls::NO_CALL => 0,
+        calls::INHERIT => two_texts(out, fields),
+        calls::LENGTHS | calls::FILTER => placed_text(out, call, fields),
+        _ => one_text(out, call, fields, Place(0)),
+    }
 }

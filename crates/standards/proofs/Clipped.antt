@@ -18,7 +18,7 @@ use lib.Ieee.Nearest.{div-same}
 use lib.Ieee.Order.{round-mono}
 use lib.Ieee.Positive.{positive, positive-of-value, above, above-of-le, le→cross, value→cross, num, den, den-pos}
 use lib.Ieee.Scale.{round-same}
-use Rattle.stream.proofs.Ranges.{across, either, le-or-lt}
+use Rattle.bytes.proofs.Ranges.{across, either, le-or-lt}
 use Rattle.floats.specs.Floats.{channelOf, clamped, d0, d1, signOf}
 use Rattle.numbers.specs.Powers.{hundred}
 use Rattle.color.specs.Color.{d255, scaledChannel}

@@ -6,19 +6,19 @@ use native.Mathlib.Omega.{arith}
 use lib.Dec.{T, eqb, eqb→eq}
 use lib.Ieee.Fits.{and-l, and-r}
 use lib.Ieee.{binary64, round, ofBits, ofInt, lt, le, add, sub, mul, div, rem, neg}
-use Rattle.stream.specs.Bytes.{within}
-use Rattle.stream.specs.Faults.{place, consumeByte, parseListSeparator}
-use Rattle.stream.specs.Flow.{bind}
-use Rattle.stream.specs.Scan.{scan, run}
-use Rattle.stream.specs.Words.{ascii, same, lowerOf, part, isCurrByteEq}
+use Rattle.bytes.specs.Bytes.{within}
+use Rattle.bytes.specs.Moves.{place}
+use Rattle.stream.specs.Faults.{consumeByte, parseListSeparator}
+use Rattle.bytes.specs.Flow.{bind}
+use Rattle.bytes.specs.Scan.{scan, run}
+use Rattle.bytes.specs.Words.{ascii, same, lowerOf, part, isCurrByteEq}
 use Rattle.floats.specs.Floats.{narrowed, channelOf}
 use Rattle.numbers.specs.Digits.{value}
-use Rattle.numbers.specs.Powers.{powerOf, powerBits}
+use Rattle.numbers.specs.Powers.{powerOf, powerBits, hundred}
 use Rattle.numbers.specs.Number.{parseNumber, parseNumberOrPercent, parseListNumber, parseListNumberOrPercent, afterItem, numberFrom, finished, scaled, valueOf, scaleOf, exponentAt, exponentFrom, mantissaAt, mantissaDot, afterSign}
 use Rattle.color.specs.Hsl.{hueToRgb, hslToRgb, hslColor}
 use Rattle.color.specs.Color.{rgba, afterNumber, closeBracket, parseAlpha, rgbMarked, rgbPlain, rgbRest, parseRgb, hslRest, parseHsl, isRgb, isHsl, parseWord, parseColor}
-use Rattle.numbers.specs.Powers.{hundred}
-use Rattle.stream.proofs.Ranges.{allFrom, across}
+use Rattle.bytes.proofs.Ranges.{allFrom, across}
 use Rattle.color.specs.declared.Color.{Color}
 use Rattle.color.specs.declared.ColorRead.{ColorRead}
 use Rattle.color.specs.declared.ColorRead.the-variants as C

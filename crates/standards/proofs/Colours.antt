@@ -1,24 +1,23 @@
 -- The reader of a colour: white space before it, its two ways to begin, and a colour as a whole text.
 use Prim.Native.Nat.{ℕ, suc, _+_, _-_, _≤_, _<_}
-use mathlib.Core.Bool.{Bool, true, false, _||_, cond}
+use mathlib.Core.Bool.{true, false, cond}
 use mathlib.Core.List.{List, [], _∷_, _++_}
-use mathlib.Core.Path.{_≡_, refl, sym, ap, _∙_}
+use mathlib.Core.Path.{_≡_, refl, ap, _∙_}
 use native.Mathlib.Omega.{arith}
-use borrow.Author.Tests.{ne-eqb, eqb-true, lt-leb, le-ltb, lt-ltb}
+use borrow.Author.Tests.{ne-eqb, lt-leb, le-ltb, lt-ltb}
 use lib.Dec.{eqb, leb, ltb}
 use lib.ListN.{length, getD, length-append, length-map}
 use lib.Seq.{take-append-seam}
-use Rattle.stream.specs.Bytes.{isDigit, isUpper, isLower, isSpace, isAsciiIdent}
-use Rattle.stream.specs.Faults.{place, invalidValue}
-use Rattle.stream.specs.Flow.{bind}
+use Rattle.bytes.specs.Bytes.{isDigit, isUpper, isLower, isSpace, isAsciiIdent}
+use Rattle.bytes.specs.Moves.{place}
+use Rattle.stream.specs.Faults.{invalidValue}
+use Rattle.bytes.specs.Flow.{bind}
 use Rattle.stream.specs.Refusals.{numberOf, bareRefusal, refusalOf, admitText}
-use Rattle.stream.specs.Scan.{run, scan}
-use Rattle.stream.specs.Words.{part, lowerOf, lowered}
+use Rattle.bytes.specs.Scan.{run, scan}
+use Rattle.bytes.specs.Words.{part, lowerOf, lowered}
 use Rattle.stream.specs.declared.Admission.the-variants.{Admitted}
-use Rattle.stream.proofs.Ahead.{scan-seam}
-use Rattle.stream.proofs.Octets.{and-first, and-second}
-use Rattle.stream.proofs.Ranges.{either, within-ge, within-le}
-use Rattle.color.proofs.Wholes.{Wordly, word-byte}
+use Rattle.bytes.proofs.Ahead.{scan-seam}
+use Rattle.bytes.proofs.Ranges.{and-first, and-second, either}
 use Rattle.color.specs.Answer.{fromStr}
 use Rattle.color.specs.Color.{isRgb, isHsl, parseRgb, parseHsl, namedColor, parseWord, parseColor, parseColorText}
 use Rattle.color.specs.Hex.{parseHex}
@@ -30,6 +29,7 @@ use Rattle.color.proofs.Shifts.{color-shift}
 use Rattle.standards.specs.CssValues3.{Blank, blank, blanks}
 use Rattle.standards.proofs.Runs.{every, run-every, Ascii, ascii-append, blanks-ascii, ascii-admitted, blanks-alone, no-space}
 use Rattle.standards.proofs.Cursors.{scanned-none, scan-on, drop-past}
+use Rattle.bytes.proofs.Wording.{Wordly, word-byte}
 
 -- what is read depends on the first byte that is no space alone
 from-scan : (s : List ℕ) (i j : ℕ) → scan isSpace s i ≡ scan isSpace s j → parseColor s i ≡ parseColor s j

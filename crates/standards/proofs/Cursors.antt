@@ -10,13 +10,14 @@ use borrow.Author.Tests.{eq-eqb, ne-eqb, lt-leb, lt-ltb}
 use lib.Dec.{eqb, leb}
 use lib.ListN.{length, getD, drop, length-append, length-map, length-drop}
 use lib.Seq.{getD-drop, drop-drop, drop-append-seam, drop-append-add, take-at}
-use Rattle.stream.specs.Bytes.{isSpace}
-use Rattle.stream.specs.Faults.{place, consumeByte, consumeString}
-use Rattle.stream.specs.Scan.{run, scan}
-use Rattle.stream.specs.Words.{startsWith, same, part, isCurrByteEq}
+use Rattle.bytes.specs.Bytes.{isSpace}
+use Rattle.bytes.specs.Moves.{place}
+use Rattle.stream.specs.Faults.{consumeByte, consumeString}
+use Rattle.bytes.specs.Scan.{run, scan}
+use Rattle.bytes.specs.Words.{startsWith, same, part, isCurrByteEq}
 use Rattle.stream.specs.declared.Consumed.the-variants as C
-use Rattle.stream.proofs.Ranges.{either, and-false}
-use Rattle.stream.proofs.Wording.{same-eq}
+use Rattle.bytes.proofs.Ranges.{either, and-false}
+use Rattle.bytes.proofs.Wording.{same-eq}
 use Rattle.standards.specs.CssValues3.{Blank, blank, blanks}
 use Rattle.standards.proofs.Runs.{run-map, blank-is}
 

@@ -9,11 +9,11 @@ use lib.Pow.{pow-add}
 use lib.IntN.{ℤ, pos}
 use lib.Ieee.{Float, fin, binary64, round, div, ofBits}
 use lib.Ieee.Scale.{finite}
-use Rattle.stream.specs.Bytes.{isSpace}
-use Rattle.stream.specs.Faults.{place}
-use Rattle.stream.specs.Scan.{scan}
-use Rattle.stream.specs.Words.{isCurrByteEq}
-use Rattle.stream.specs.declared.Place.{Place}
+use Rattle.bytes.specs.Bytes.{isSpace}
+use Rattle.bytes.specs.Moves.{place}
+use Rattle.bytes.specs.Scan.{scan}
+use Rattle.bytes.specs.Words.{isCurrByteEq}
+use Rattle.bytes.specs.declared.Place.{Place}
 use Rattle.floats.proofs.Bounds.{is-finite, round-within}
 use Rattle.numbers.specs.Decimal.{Decimal, written, nearest}
 use Rattle.numbers.specs.Digits.{cap}

@@ -10,11 +10,12 @@ use lib.Dec.{T, leb}
 use lib.Ieee.{Float, round, ofBits}
 use lib.ListN.{length, getD, length-append, length-map}
 use lib.Seq.{take-at}
-use Rattle.stream.specs.Bytes.{within, isSpace, isAsciiIdent, isUrlByte}
-use Rattle.stream.specs.Faults.{place, consumeByte}
-use Rattle.stream.specs.Flow.{bind}
-use Rattle.stream.specs.Scan.{scan, run}
-use Rattle.stream.specs.Words.{ascii, same, part, isCurrByteEq}
+use Rattle.bytes.specs.Bytes.{within, isSpace, isAsciiIdent, isUrlByte}
+use Rattle.bytes.specs.Moves.{place}
+use Rattle.stream.specs.Faults.{consumeByte}
+use Rattle.bytes.specs.Flow.{bind}
+use Rattle.bytes.specs.Scan.{scan, run}
+use Rattle.bytes.specs.Words.{ascii, same, part, isCurrByteEq}
 use Rattle.numbers.specs.Number.{parseNumberOrPercent}
 use Rattle.numbers.specs.declared.Number.{Number}
 use Rattle.numbers.specs.declared.NumberRead.the-variants as N

@@ -7,15 +7,15 @@ use native.Mathlib.Omega.{arith}
 use borrow.Author.Tests.{lt-leb}
 use lib.Dec.{T}
 use lib.ListN.{length, getD, length-append, length-map}
-use Rattle.stream.specs.Bytes.{isSpace}
-use Rattle.stream.specs.Faults.{place}
-use Rattle.stream.specs.Flow.{bind}
-use Rattle.stream.specs.Refusals.{refusalOf, admitPlace}
-use Rattle.stream.specs.Scan.{scan, run}
-use Rattle.stream.specs.Words.{ascii, startsWith}
+use Rattle.bytes.specs.Bytes.{isSpace}
+use Rattle.bytes.specs.Moves.{place}
+use Rattle.bytes.specs.Flow.{bind}
+use Rattle.stream.specs.Refusals.{admitPlace}
+use Rattle.bytes.specs.Scan.{scan, run}
+use Rattle.bytes.specs.Words.{ascii, startsWith}
 use Rattle.color.specs.declared.Color.{Color}
-use Rattle.filter_functions.specs.Filters.{parseStep, nextFilter}
-use Rattle.filter_functions.specs.Moves.{moveFilterValue, moveStepRead, thenStep}
+use Rattle.filter_functions.specs.Filters.{parseStep, edged, stepOf, nextFilter}
+use Rattle.filter_functions.specs.Moves.{moveFilterValue, moveStepRead}
 use Rattle.filter_functions.specs.declared.FilterStep.{FilterStep}
 use Rattle.filter_functions.specs.declared.FilterStep.the-variants as O
 use Rattle.filter_functions.specs.declared.StepRead.{StepRead}
@@ -146,11 +146,8 @@ list-end s = step-none (record { before = s; text = sym (append-nil s); here = r
 
 -- the outside step of an ASCII text
 module _ (s : List ℕ) (small : length s ≤ 4096) (plain : Ascii s) where
-  abbrev edged : StepRead → FilterStep
-  edged x = thenStep (λ e. O.Refused (refusalOf s e) (place (length s))) (O.End (place (length s))) (O.NoneWord (place (length s))) x (λ v p. O.Value v p)
-
-  next-edged : (n : ℕ) → n ≤ length s → nextFilter s n ≡ edged (parseStep s n)
-  unfolding nextFilter admitPlace
+  next-edged : (n : ℕ) → n ≤ length s → nextFilter s n ≡ edged s (parseStep s n)
+  unfolding nextFilter stepOf admitPlace
   next-edged n h = simp (ascii-admitted s plain small, on-ascii s n plain h)
 
 -- the values of a list's functions, from place n on: each with the place after its white space

@@ -8,13 +8,14 @@ use lib.Dec.{T, eqb}
 use lib.Ieee.{Float}
 use lib.Ieee.Bits.{is-false}
 use lib.ListN.{length, getD, length-append, length-map}
-use Rattle.stream.specs.Bytes.{isSpace, isLower, within}
-use Rattle.stream.specs.Faults.{place, parseListSeparator}
-use Rattle.stream.specs.Flow.{bind}
-use Rattle.stream.specs.Scan.{scan}
-use Rattle.stream.specs.Words.{ascii, same, lowerOf}
-use Rattle.stream.specs.declared.Place.{Place}
-use Rattle.stream.proofs.Ranges.{allFrom, across}
+use Rattle.bytes.specs.Bytes.{isSpace, isLower, within}
+use Rattle.bytes.specs.Moves.{place}
+use Rattle.stream.specs.Faults.{parseListSeparator}
+use Rattle.bytes.specs.Flow.{bind}
+use Rattle.bytes.specs.Scan.{scan}
+use Rattle.bytes.specs.Words.{ascii, same, lowerOf}
+use Rattle.bytes.specs.declared.Place.{Place}
+use Rattle.bytes.proofs.Ranges.{allFrom, across}
 use Rattle.numbers.specs.Moves.{thenNumber}
 use Rattle.numbers.specs.Number.{parseNumber, parseNumberOrPercent, afterItem, parseListNumber, parseListNumberOrPercent}
 use Rattle.numbers.specs.declared.Number as R

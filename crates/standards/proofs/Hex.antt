@@ -7,14 +7,15 @@ use native.Mathlib.Omega.{arith}
 use borrow.Author.Tests.{ne-eqb}
 use lib.Dec.{T, eqb}
 use lib.ListN.{length, getD, length-map}
-use Rattle.stream.specs.Bytes.{within, isHexDigit}
-use Rattle.stream.specs.Faults.{place, invalidValue}
-use Rattle.stream.specs.Flow.{bind}
-use Rattle.stream.specs.Scan.{run, scan}
+use Rattle.bytes.specs.Bytes.{within, isHexDigit}
+use Rattle.bytes.specs.Moves.{place}
+use Rattle.stream.specs.Faults.{invalidValue}
+use Rattle.bytes.specs.Flow.{bind}
+use Rattle.bytes.specs.Scan.{run, scan}
 use Rattle.stream.specs.Refusals.{bareRefusal, admitText}
-use Rattle.stream.specs.declared.Place.{Place}
+use Rattle.bytes.specs.declared.Place.{Place}
 use Rattle.stream.specs.declared.Admission.the-variants.{Admitted}
-use Rattle.stream.proofs.Ranges.{either, allFrom, across, within-ge, within-le}
+use Rattle.bytes.proofs.Ranges.{either, allFrom, across, within-ge, within-le}
 use Rattle.names.proofs.Tables.{holds-true}
 use Rattle.color.specs.Answer.{fromStr}
 use Rattle.color.specs.Color.{rgba, parseColor}

@@ -7,14 +7,14 @@ use native.Mathlib.Omega.{arith}
 use borrow.Author.Tests.{ltb-true}
 use lib.Dec.{T, ltb}
 use lib.ListN.{length, getD, length-map}
-use Rattle.stream.specs.Bytes.{within, isLower, isAsciiIdent}
-use Rattle.stream.specs.Faults.{place, invalidValue}
+use Rattle.bytes.specs.Bytes.{within, isLower, isAsciiIdent}
+use Rattle.bytes.specs.Moves.{place}
+use Rattle.stream.specs.Faults.{invalidValue}
 use Rattle.stream.specs.Refusals.{bareRefusal, admitText}
 use Rattle.stream.specs.declared.Admission.the-variants.{Admitted}
-use Rattle.stream.specs.Words.{ascii, same, lowerOf, lowered}
-use Rattle.stream.proofs.Octets.{and-first, and-second}
-use Rattle.stream.proofs.Ranges.{allFrom, across}
-use Rattle.stream.proofs.Wording.{same-eq}
+use Rattle.bytes.specs.Words.{ascii, same, lowerOf, lowered}
+use Rattle.bytes.proofs.Ranges.{and-first, and-second, allFrom, across}
+use Rattle.bytes.proofs.Wording.{same-eq}
 use Rattle.names.specs.Keywords as own
 use Rattle.names.specs.Search.{nth}
 use Rattle.names.proofs.Naming.{named-keyword, named-unknown, named-transparent}

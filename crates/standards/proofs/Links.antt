@@ -9,15 +9,16 @@ use borrow.Author.Tests.{ne-eqb, lt-leb}
 use lib.Dec.{eqb, leb}
 use lib.ListN.{length, getD, take, drop, length-append, length-map}
 use lib.Seq.{take-all}
-use Rattle.stream.specs.Blanks.{blank1, trimEnd}
-use Rattle.stream.specs.Bytes.{isSpace, isUrlByte, isOther}
-use Rattle.stream.specs.Faults.{place, consumeByte, consumeString}
-use Rattle.stream.specs.Flow.{bind}
-use Rattle.stream.specs.Scan.{scan, run}
-use Rattle.stream.specs.Words.{ascii, startsWith, part}
+use Rattle.utf8.specs.Blanks.{blank1, trimEnd}
+use Rattle.bytes.specs.Bytes.{isSpace, isUrlByte, isOther}
+use Rattle.bytes.specs.Moves.{place}
+use Rattle.stream.specs.Faults.{consumeByte, consumeString}
+use Rattle.bytes.specs.Flow.{bind}
+use Rattle.bytes.specs.Scan.{scan, run}
+use Rattle.bytes.specs.Words.{ascii, startsWith, part}
 use Rattle.stream.specs.declared.Consumed.the-variants as C
-use Rattle.stream.specs.declared.Part.{Part}
-use Rattle.stream.proofs.Ranges.{and-false}
+use Rattle.bytes.specs.declared.Part.{Part}
+use Rattle.bytes.proofs.Ranges.{and-false}
 use Rattle.funciri.specs.Link.{isQuote, hasQuote, isLink, linkAt, closeLink, closeQuote, quotedLink, plainLink, parseFuncIri}
 use Rattle.funciri.specs.declared.LinkRead.the-variants as L
 use Rattle.standards.specs.CssValues3.{Blank, space, blank, blanks, UrlByte, urlByte, urlBytes}

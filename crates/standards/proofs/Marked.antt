@@ -9,9 +9,9 @@ use lib.Dec.{lit≤}
 use lib.Ieee.{binary64, round, units, odd, eq, ofBits}
 use lib.Ieee.Scale.{round-same}
 use lib.ListN.{length, getD, length-append}
-use Rattle.stream.specs.Bytes.{within, isSpace, isAsciiIdent}
-use Rattle.stream.specs.Faults.{place}
-use Rattle.stream.specs.Flow.{bind}
+use Rattle.bytes.specs.Bytes.{within, isSpace, isAsciiIdent}
+use Rattle.bytes.specs.Moves.{place}
+use Rattle.bytes.specs.Flow.{bind}
 use Rattle.floats.specs.Floats.{d0, signOf}
 use Rattle.numbers.specs.Number.{parseNumber, parseNumberOrPercent}
 use Rattle.numbers.specs.Powers.{hundred}

@@ -11,11 +11,11 @@ use lib.Ieee.{Float, binary64, round, mul, div, ofBits, toBits, fits}
 use lib.Ieee.Bits.{ofBits-toBits}
 use lib.Ieee.Fits.{round-fits, div-fits}
 use lib.ListN.{length, drop, length-append, length-map}
-use Rattle.stream.specs.Faults.{place}
-use Rattle.stream.specs.Flow.{bind}
-use Rattle.stream.specs.Words.{startsWith}
-use Rattle.stream.specs.declared.Place.{Place}
-use Rattle.stream.proofs.Ranges.{across}
+use Rattle.bytes.specs.Moves.{place}
+use Rattle.bytes.specs.Flow.{bind}
+use Rattle.bytes.specs.Words.{startsWith}
+use Rattle.bytes.specs.declared.Place.{Place}
+use Rattle.bytes.proofs.Ranges.{across}
 use Rattle.numbers.specs.Number.{parseNumber}
 use Rattle.numbers.specs.declared.Number.{Number}
 use Rattle.numbers.specs.declared.NumberRead.the-variants as N

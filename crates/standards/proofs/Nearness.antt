@@ -10,7 +10,7 @@ use lib.Ieee.Digits.{size-reaches}
 use lib.Ieee.Fits.{kept-lt, nearest-le}
 use lib.Ieee.Nearest.{closest, nearest-ge}
 use lib.Ieee.Order.{drop, kept}
-use Rattle.stream.proofs.Ranges.{le-or-lt, lt-or-le}
+use Rattle.bytes.proofs.Ranges.{le-or-lt, lt-or-le}
 use Rattle.floats.proofs.Rounding.{closest-lt, closest-eq, closest-gt}
 use Rattle.standards.specs.Ieee754.{dist}
 

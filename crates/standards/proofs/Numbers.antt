@@ -10,11 +10,11 @@ use lib.Dec.{eqb, leb, lit≤}
 use lib.Ieee.{Float, binary64, div}
 use lib.ListN.{length, getD, drop, length-append, length-map}
 use lib.Seq.{drop-append-seam}
-use Rattle.stream.specs.Bytes.{isDigit, isSpace, within}
-use Rattle.stream.specs.Faults.{place}
-use Rattle.stream.specs.Flow.{bind}
-use Rattle.stream.specs.Scan.{scan}
-use Rattle.stream.proofs.Ranges.{either, within-yes}
+use Rattle.bytes.specs.Bytes.{isDigit, isSpace, within}
+use Rattle.bytes.specs.Moves.{place}
+use Rattle.bytes.specs.Flow.{bind}
+use Rattle.bytes.specs.Scan.{scan}
+use Rattle.bytes.proofs.Ranges.{either, within-yes}
 use Rattle.numbers.specs.Decimal.{written, nearest}
 use Rattle.numbers.specs.Digits.{value, cap}
 use Rattle.numbers.specs.Number.{startsNumber, afterSign, mantissaAt, mantissaDot, exponentAt, exponentFrom, scaleOf, valueOf, scaled, finished, numberFrom, parseNumber, parseNumberOrPercent}

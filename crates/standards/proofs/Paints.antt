@@ -1,21 +1,21 @@
 -- SVG 2's paints are what the paint reader reads, given that the colours are read.
 use Prim.Native.Nat.{ℕ, suc, _+_, _-_, _≤_}
 use mathlib.Core.Bool.{Bool, true, false}
-use mathlib.Core.List.{List, [], _∷_, _++_, append-assoc, append-nil}
+use mathlib.Core.List.{List, [], _++_, append-assoc, append-nil}
 use mathlib.Core.Path.{_≡_, refl, sym, ap, _∙_}
 use native.Mathlib.Omega.{arith}
 use borrow.Author.Tests.{ne-eqb, le-leb, lt-leb, ltb-true}
 use lib.Dec.{T, eqb, leb, ltb}
 use lib.ListN.{length, getD, drop, length-append, length-map}
 use lib.Seq.{drop-at, take-at}
-use Rattle.stream.specs.Blanks.{blank1}
-use Rattle.stream.specs.Bytes.{isSpace, within}
-use Rattle.stream.specs.Faults.{place}
-use Rattle.stream.specs.Flow.{bind}
-use Rattle.stream.specs.Scan.{scan, run}
-use Rattle.stream.specs.Words.{ascii, startsWith, same, lowerOf, part}
-use Rattle.stream.specs.declared.Part.{Part}
-use Rattle.stream.proofs.Ranges.{either}
+use Rattle.utf8.specs.Blanks.{blank1}
+use Rattle.bytes.specs.Bytes.{isSpace, within}
+use Rattle.bytes.specs.Moves.{place}
+use Rattle.bytes.specs.Flow.{bind}
+use Rattle.bytes.specs.Scan.{scan, run}
+use Rattle.bytes.specs.Words.{ascii, startsWith, same, lowerOf, part}
+use Rattle.bytes.specs.declared.Part.{Part}
+use Rattle.bytes.proofs.Ranges.{either}
 use Rattle.names.specs.Keywords.{keywords}
 use Rattle.names.specs.Look.{lookUp, namedOf}
 use Rattle.color.specs.Color.{isRgb, isHsl, namedColor, parseWord, parseColor, parseColorText}
@@ -23,7 +23,6 @@ use Rattle.color.specs.declared.Color.{Color}
 use Rattle.color.specs.declared.ColorRead.{ColorRead}
 use Rattle.color.specs.declared.ColorRead.the-variants as C
 use Rattle.funciri.specs.Link.{linkAt, linkBytes}
-use Rattle.funciri.proofs.Told.{begins-with}
 use Rattle.paint.specs.Answers.{fromStr}
 use Rattle.paint.specs.Moves.{movePaint}
 use Rattle.paint.specs.Reading.{parseFallback, parseLinked, parsePlain, parsePaint}
@@ -40,6 +39,7 @@ use Rattle.standards.proofs.Cursors.{differs, blanks-past, blanks-scan,
 use Rattle.standards.proofs.Links.{Closes, link-read, url-tight}
 use Rattle.standards.proofs.Runs.{Ascii, ascii-append, ascii-admitted, blanks-ascii}
 use Rattle.standards.proofs.Tight.{Tight, start-is, trim-is, tight-around}
+use Rattle.bytes.proofs.Wording.{begins-with}
 
 isRefused : ColorRead → Bool
 isRefused (C.Value c p) = false

@@ -9,14 +9,13 @@ use borrow.Author.Tests.{eqb-true, le-ltb, ltb-true}
 use lib.Dec.{T, eqb, ltb}
 use lib.ListN.{length, getD, drop, length-append, length-map}
 use lib.Seq.{drop-at}
-use Rattle.stream.specs.Blanks.{blank1}
-use Rattle.stream.specs.Bytes.{within, isLower, isHexDigit, isSpace, isAsciiIdent}
-use Rattle.stream.specs.Faults.{place}
-use Rattle.stream.specs.Flow.{bind}
-use Rattle.stream.specs.Scan.{scan, run}
-use Rattle.stream.specs.Words.{ascii}
-use Rattle.stream.proofs.Octets.{and-first, and-second}
-use Rattle.stream.proofs.Ranges.{either, le-or-lt, within-high, within-ge, within-le, allFrom}
+use Rattle.utf8.specs.Blanks.{blank1}
+use Rattle.bytes.specs.Bytes.{within, isLower, isHexDigit, isSpace, isAsciiIdent}
+use Rattle.bytes.specs.Moves.{place}
+use Rattle.bytes.specs.Flow.{bind}
+use Rattle.bytes.specs.Scan.{scan, run}
+use Rattle.bytes.specs.Words.{ascii}
+use Rattle.bytes.proofs.Ranges.{and-first, and-second, either, le-or-lt, within-high, within-ge, within-le, allFrom}
 use Rattle.numbers.specs.Number.{startsNumber}
 use Rattle.color.specs.Answer.{fromStr}
 use Rattle.color.specs.Color.{rgba, parseColor, parseColorText}

@@ -6,8 +6,8 @@ use mathlib.Core.Path.{_≡_, refl, ap, _∙_}
 use lib.Dec.{eqb}
 use lib.Ieee.{binary64, div}
 use lib.ListN.{length, getD}
-use Rattle.stream.specs.Bytes.{isDigit, within}
-use Rattle.stream.specs.Faults.{place}
+use Rattle.bytes.specs.Bytes.{isDigit, within}
+use Rattle.bytes.specs.Moves.{place}
 use Rattle.numbers.specs.Moves.{moveNumberRead}
 use Rattle.numbers.specs.Number.{parseNumber, parseNumberOrPercent}
 use Rattle.numbers.specs.Powers.{hundred}

@@ -12,7 +12,7 @@ use lib.Pow.{pow-add, pow-pos, pow-lt}
 use lib.Ieee.{Format, fin, prec, emax, low, up, down, rem, fits}
 use lib.Ieee.Exact.{HasValue, round-exact}
 use lib.Ieee.Fits.{and-l, and-r, up-pos, down-pos}
-use Rattle.stream.proofs.Ranges.{le-or-lt}
+use Rattle.bytes.proofs.Ranges.{le-or-lt}
 use Rattle.standards.specs.Ieee754.{exact, leftover}
 use Rattle.standards.proofs.Nearness.{on-grid}
 

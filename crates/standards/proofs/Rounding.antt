@@ -13,7 +13,7 @@ use lib.Ieee.{Float, nan, inf, fin, Format, binary32, binary64, prec, emax, up, 
 use lib.Ieee.Exact.{HasValue, odd-sign}
 use lib.Ieee.Fits.{round-is, round-fits, two, eq→eqb, up-pos, down-pos}
 use lib.Ieee.Order.{drop, kept}
-use Rattle.stream.proofs.Ranges.{le-or-lt}
+use Rattle.bytes.proofs.Ranges.{le-or-lt}
 use Rattle.floats.specs.Floats.{narrowed}
 use Rattle.floats.proofs.Channels.{by-bits}
 use Rattle.standards.specs.Ieee754.{Fraction, Parameters, parameters, low, Finite, units, distance, Overflows, Delivered, RoundsTo, double, single, exact, added, sum, difference, product, quotient, leftover}

@@ -8,16 +8,16 @@ use native.Mathlib.Omega.{arith}
 use borrow.Author.Tests.{ne-eqb, lt-ltb, ltb-true}
 use lib.Dec.{ltb, lit≤}
 use lib.ListN.{length, getD, length-map}
-use Rattle.stream.specs.Bytes.{isSpace}
-use Rattle.stream.specs.Characters.{walk, utf8Of, onCharacter}
+use Rattle.bytes.specs.Bytes.{isSpace}
+use Rattle.utf8.specs.Characters.{walk, utf8Of, onCharacter}
 use Rattle.stream.specs.Refusals.{admitText}
-use Rattle.stream.specs.Scan.{run}
+use Rattle.bytes.specs.Scan.{run}
 use Rattle.stream.specs.declared.Admission.the-variants.{Admitted}
-use Rattle.stream.specs.declared.Utf8.the-variants.{WellFormed}
-use Rattle.stream.proofs.Counting.{on-byte, on-end}
+use Rattle.utf8.specs.declared.Utf8.the-variants.{WellFormed}
+use Rattle.utf8.proofs.Counting.{on-byte, on-end}
 use Rattle.stream.proofs.Edges.{admit-good}
-use Rattle.stream.proofs.Octets.{char-ascii, and-first, and-second}
-use Rattle.stream.proofs.Ranges.{le-or-lt, within-low}
+use Rattle.utf8.proofs.Octets.{char-ascii}
+use Rattle.bytes.proofs.Ranges.{and-first, and-second, le-or-lt, within-low}
 use Rattle.standards.specs.CssValues3.{Blank, space, tab, line-feed, return, blank, blanks, Digit, numeral, numerals, Sign, unsigned, plus, minus, sign, Digits, whole, dotted, digits, Exponent, absent, small, capital, exponent, Number, number}
 
 -- all bytes are of the class

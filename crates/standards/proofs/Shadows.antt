@@ -7,16 +7,17 @@ use native.Mathlib.Omega.{arith}
 use borrow.Author.Tests.{ne-eqb, lt-leb}
 use lib.Dec.{leb, lit≤}
 use lib.ListN.{length, getD, take, length-append, length-map}
-use Rattle.stream.specs.Bytes.{within, isSpace, isAsciiIdent}
-use Rattle.stream.specs.Faults.{place, invalidValue}
-use Rattle.stream.specs.Flow.{bind}
+use Rattle.bytes.specs.Bytes.{within, isSpace, isAsciiIdent}
+use Rattle.bytes.specs.Moves.{place}
+use Rattle.stream.specs.Faults.{invalidValue}
+use Rattle.bytes.specs.Flow.{bind}
 use Rattle.stream.specs.Refusals.{numberOf, isOutsideDomain}
-use Rattle.stream.specs.Scan.{scan, run}
-use Rattle.stream.specs.Words.{ascii, same, part, isCurrByteEq, lowerOf, lowered}
+use Rattle.bytes.specs.Scan.{scan, run}
+use Rattle.bytes.specs.Words.{ascii, same, part, isCurrByteEq, lowerOf, lowered}
 use Rattle.stream.specs.declared.Fault.{Fault}
-use Rattle.stream.specs.declared.Place.{Place}
-use Rattle.stream.proofs.Parts.{byte-inside}
-use Rattle.stream.proofs.Ranges.{either}
+use Rattle.bytes.specs.declared.Place.{Place}
+use Rattle.bytes.proofs.Parts.{byte-inside}
+use Rattle.bytes.proofs.Ranges.{either}
 use Rattle.numbers.specs.Number.{startsNumber, parseNumber}
 use Rattle.numbers.specs.declared.Number.{Number}
 use Rattle.length.specs.Lengths.{parseLength}

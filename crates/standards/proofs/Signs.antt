@@ -4,7 +4,7 @@ use mathlib.Core.Bool.{Bool, true, false}
 use mathlib.Core.Path.{_≡_, refl}
 use lib.Dec.{ltb}
 use lib.Ieee.{Float, nan, inf, fin, Format, binary64, prec, emax, low, round, units, odd, div, ofBits}
-use Rattle.stream.proofs.Ranges.{either}
+use Rattle.bytes.proofs.Ranges.{either}
 use Rattle.floats.specs.Floats.{signOf}
 use Rattle.numbers.specs.Powers.{hundred}
 use Rattle.standards.specs.Ieee754.{Fraction, double}

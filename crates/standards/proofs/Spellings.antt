@@ -6,10 +6,9 @@ use mathlib.Core.Path.{_≡_, refl, sym}
 use native.Mathlib.Omega.{arith}
 use borrow.Author.Tests.{eqb-true}
 use lib.Dec.{T, eqb}
-use Rattle.stream.specs.Bytes.{within, isLower}
-use Rattle.stream.specs.Words.{lowerOf, lowered}
-use Rattle.stream.proofs.Octets.{and-first, and-second}
-use Rattle.stream.proofs.Ranges.{within-ge, within-le, allFrom, across}
+use Rattle.bytes.specs.Bytes.{within, isLower}
+use Rattle.bytes.specs.Words.{lowerOf, lowered}
+use Rattle.bytes.proofs.Ranges.{and-first, and-second, within-ge, within-le, allFrom, across}
 use Rattle.names.proofs.Tables.{holds-true}
 use Rattle.standards.specs.CssColor3.{Spelling, done, small, capital, spelling}
 use Rattle.standards.proofs.Runs.{every}

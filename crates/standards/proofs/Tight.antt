@@ -6,7 +6,7 @@ use mathlib.Core.Path.{_≡_, refl, sym, _∙_}
 use native.Mathlib.Omega.{arith}
 use lib.ListN.{length, getD, length-append, length-map, List·getD-append}
 use lib.Seq.{getD-append-add}
-use Rattle.stream.specs.Blanks.{blank1, trimStart, trimEnd, trimOf}
+use Rattle.utf8.specs.Blanks.{blank1, trimStart, trimEnd, trimOf}
 use Rattle.standards.specs.Rfc3629.{Octet, Char, utf8-1, octets, text, scalar}
 use Rattle.standards.specs.Unicode.{isWhite}
 use Rattle.standards.specs.CssValues3.{Blank, space, tab, line-feed, return, blank, blanks}

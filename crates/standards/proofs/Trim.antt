@@ -10,10 +10,9 @@ use borrow.Author.Tests.{ne-eqb, le-leb, lt-leb, ltb-true, leb-true}
 use lib.Dec.{T, eqb, leb, ltb, lit≤}
 use lib.Seq.{getD-append-add, drop-append-seam, drop-length, take-append-seam, take-nil}
 use lib.ListN.{length, getD, length-append, List·getD-append}
-use Rattle.stream.specs.Blanks.{blank1, blank2, blank3, blankLen, blankEnd, blankAt, byteBefore, blankBefore, trimStart, trimEnd, trimOf}
-use Rattle.stream.proofs.Ranges.{allFrom, across, lt-or-le, and-false}
-use Rattle.stream.proofs.Octets.{and-first, and-second}
-use Rattle.stream.proofs.Trimming.{blank-drop, Fronting, front-start, front-end, front-stop, front-go, Backing, back-start, back-end, back-stop, back-go}
+use Rattle.utf8.specs.Blanks.{blank1, blank2, blank3, blankLen, blankEnd, blankAt, byteBefore, blankBefore, trimStart, trimEnd, trimOf}
+use Rattle.bytes.proofs.Ranges.{allFrom, across, lt-or-le, and-false, and-first, and-second}
+use Rattle.utf8.proofs.Trimming.{blank-drop, Fronting, front-start, front-end, front-stop, front-go, Backing, back-start, back-end, back-stop, back-go}
 use Rattle.standards.specs.Rfc3629.{Octet, Tail, Char, utf8-1, utf8-2, utf8-3-e0, utf8-3-e1, utf8-3-ed, utf8-3-ee, utf8-4-f0, utf8-4-f1, utf8-4-f4, octets, text, two, three, four, scalar}
 use Rattle.standards.specs.Unicode.{isWhite}
 use Rattle.standards.proofs.Utf8.{octets-some}

@@ -7,9 +7,9 @@ use native.Mathlib.Omega.{arith}
 use borrow.Author.Tests.{ne-eqb}
 use lib.Dec.{eqb}
 use lib.ListN.{length, getD, drop}
-use Rattle.stream.specs.Bytes.{within, isLower}
-use Rattle.stream.specs.Faults.{place}
-use Rattle.stream.specs.Words.{startsWith}
+use Rattle.bytes.specs.Bytes.{within, isLower}
+use Rattle.bytes.specs.Moves.{place}
+use Rattle.bytes.specs.Words.{startsWith}
 use Rattle.length.specs.Lengths.{unitAt, unitRest, unitWidth}
 use Rattle.length.specs.declared.LengthUnit as L
 use Rattle.length.specs.declared.LengthUnit.the-variants as U

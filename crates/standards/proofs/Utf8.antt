@@ -7,16 +7,16 @@ use native.Mathlib.Numerals.{sub-one}
 use native.Mathlib.Omega.{arith}
 use lib.Dec.{lit≤}
 use lib.ListN.{length, length-append}
-use Rattle.stream.specs.Bytes.{within}
-use Rattle.stream.specs.Characters.{Range, Row, table, keeps, rowOf, lenAt, charLen, walk, utf8Of, firsts, count, characters, calcCharPosAt}
-use Rattle.stream.specs.Moves.{moveUtf8}
-use Rattle.stream.specs.declared.Place.{Place}
-use Rattle.stream.specs.declared.Utf8.{Utf8}
-use Rattle.stream.specs.declared.Utf8.the-variants.{WellFormed, IllFormed}
-use Rattle.stream.proofs.Ranges.{within-yes, within-ge, within-le, either}
-use Rattle.stream.proofs.Octets.{and-first, and-second, row-0, row-1, row-3, row-5, row-7, char-ascii}
-use Rattle.stream.proofs.Walks.{walk-start, walk-end, walk-bad, walk-go, utf8-join}
-use Rattle.stream.proofs.Counting.{position-shift}
+use Rattle.bytes.specs.Bytes.{within}
+use Rattle.utf8.specs.Characters.{Range, Row, table, keeps, rowOf, lenAt, charLen, walk, utf8Of, firsts, count, characters, calcCharPosAt}
+use Rattle.utf8.specs.Moves.{moveUtf8}
+use Rattle.bytes.specs.declared.Place.{Place}
+use Rattle.utf8.specs.declared.Utf8.{Utf8}
+use Rattle.utf8.specs.declared.Utf8.the-variants.{WellFormed, IllFormed}
+use Rattle.bytes.proofs.Ranges.{within-yes, within-ge, within-le, either, and-first, and-second}
+use Rattle.utf8.proofs.Octets.{row-0, row-1, row-3, row-5, row-7, char-ascii}
+use Rattle.utf8.proofs.Walks.{walk-start, walk-end, walk-bad, walk-go, utf8-join}
+use Rattle.utf8.proofs.Counting.{position-shift}
 use Rattle.standards.specs.Rfc3629.{Octet, Char, utf8-1, utf8-2, utf8-3-e0, utf8-3-e1, utf8-3-ed, utf8-3-ee, utf8-4-f0, utf8-4-f1, utf8-4-f4, octets, text}
 
 in-range : {lo hi : ℕ} (a : Octet lo hi) → within lo hi (a .is) ≡ true

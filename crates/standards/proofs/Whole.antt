@@ -4,8 +4,8 @@ use mathlib.Core.List.{List, _∷_, _++_, []}
 use mathlib.Core.Path.{_≡_}
 use lib.Ieee.{binary64, div}
 use lib.ListN.{length}
-use Rattle.stream.specs.Faults.{place}
-use Rattle.stream.specs.Words.{ascii}
+use Rattle.bytes.specs.Moves.{place}
+use Rattle.bytes.specs.Words.{ascii}
 use Rattle.numbers.specs.Number.{parseNumber, parseNumberOrPercent}
 use Rattle.numbers.specs.Powers.{hundred}
 use Rattle.numbers.specs.declared.NumberRead.the-variants as N

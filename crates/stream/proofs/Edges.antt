@@ -2,25 +2,25 @@
 use Prim.Native.Nat.{ℕ, _+_, _-_, _≤_, _<_}
 use mathlib.Core.Bool.{Bool, true, false, cond, not}
 use mathlib.Core.List.{List, _++_}
-use mathlib.Core.Path.{_≡_, refl, sym, ap, _∙_}
+use mathlib.Core.Path.{_≡_, refl, sym, _∙_}
 use native.Mathlib.Omega.{arith}
-use borrow.Author.Tests.{leb-true, lt-leb, le-leb, eq-eqb, ne-eqb}
+use borrow.Author.Tests.{leb-true, lt-leb, le-leb, ne-eqb}
 use lib.Dec.{leb, eqb}
 use lib.ListN.{length, getD, List·getD-eq-default}
-use Rattle.stream.specs.Bytes.{isTail}
-use Rattle.stream.specs.Characters.{utf8Of, onCharacter, firsts, characters, calcCharPosAt}
+use Rattle.bytes.specs.Bytes.{isTail}
+use Rattle.utf8.specs.Characters.{utf8Of, onCharacter, firsts, characters, calcCharPosAt}
 use Rattle.stream.specs.Moves.{moveFault, moveRefusal}
 use Rattle.stream.specs.Refusals.{numberOf, bareRefusal, illFormed, refusalOf, admitUtf8, admitText, admitPlace, thenAdmitted}
-use Rattle.stream.specs.declared.Place.{Place}
+use Rattle.bytes.specs.declared.Place.{Place}
 use Rattle.stream.specs.declared.Fault.{Fault}
 use Rattle.stream.specs.declared.Refusal.{Refusal}
-use Rattle.stream.specs.declared.Utf8.{Utf8}
-use Rattle.stream.specs.declared.Utf8.the-variants.{WellFormed, IllFormed}
+use Rattle.utf8.specs.declared.Utf8.{Utf8}
+use Rattle.utf8.specs.declared.Utf8.the-variants.{WellFormed, IllFormed}
 use Rattle.stream.specs.declared.Admission.{Admission}
 use Rattle.stream.specs.declared.Admission.the-variants as A
-use Rattle.stream.proofs.Ranges.{either}
-use Rattle.stream.proofs.Shifts.{sub-shift}
-use Rattle.stream.proofs.Counting.{heads, firsts-are, heads-length, on-byte, position-shift}
+use Rattle.bytes.proofs.Ranges.{either}
+use Rattle.bytes.proofs.Shifts.{sub-shift}
+use Rattle.utf8.proofs.Counting.{heads, firsts-are, heads-length, on-byte, position-shift}
 
 module _ (s : List ℕ) where
   pub admit-long : {e : Refusal} → 4096 < length s → e ≡ bareRefusal 1 → A.Refused e ≡ admitText s

@@ -1,16 +1,6 @@
-pub mod Ranges
-pub mod Scans
 pub mod Flows
-pub mod Parts
-pub mod Wording
 pub mod Opening
-pub mod Ahead
 pub mod Shifts
 pub mod Sames
-pub mod Octets
-pub mod Walks
-pub mod Counting
-pub mod Trimming
 pub mod Edges
-pub mod Cuts
 pub mod Worked

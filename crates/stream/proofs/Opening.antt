@@ -8,12 +8,13 @@ use borrow.Author.Tests.{eqb-true, lt-leb}
 use lib.Dec.{eqb}
 use lib.ListN.{length, getD, take, drop, length-drop}
 use lib.Seq.{getD-drop}
-use Rattle.stream.specs.Bytes.{within, isSpace, isAsciiIdent}
-use Rattle.stream.specs.Faults.{place, consumeByte}
-use Rattle.stream.specs.Scan.{run, scan}
-use Rattle.stream.specs.Words.{startsWith, part}
+use Rattle.bytes.specs.Bytes.{within, isSpace, isAsciiIdent}
+use Rattle.bytes.specs.Moves.{place}
+use Rattle.stream.specs.Faults.{consumeByte}
+use Rattle.bytes.specs.Scan.{run, scan}
+use Rattle.bytes.specs.Words.{startsWith, part}
 use Rattle.stream.specs.declared.Consumed.the-variants as K
-use Rattle.stream.proofs.Scans.{scan-here}
+use Rattle.bytes.proofs.Scans.{scan-here}
 
 -- a word and the bracket that opens its arguments
 abbrev pub bracketed : List ℕ → List ℕ

@@ -1,25 +1,24 @@
 -- more, as congruences for `search`: a definition of bind, cond and then is gone through in its own order, and each test is known in its arms.
-use Prim.Native.Nat.{ℕ, suc, _+_, _≤_, _<_}
+use Prim.Native.Nat.{ℕ, _+_, _<_}
 use mathlib.Core.Bool.{Bool, true, false, cond, _&&_}
 use mathlib.Core.List.{List, _++_}
 use mathlib.Core.Path.{_≡_, refl, ap, sym}
 use native.Mathlib.Omega.{arith}
-use borrow.Author.Tests.{lt-leb, le-leb, leb-false, eqb-true, eq-eqb, lt-ltb}
+use borrow.Author.Tests.{lt-leb, leb-false, eq-eqb, lt-ltb}
 use lib.Dec.{eqb, leb, ltb}
 use lib.ListN.{length, getD, drop, length-append}
-use Rattle.stream.specs.Bytes.{isSpace}
-use Rattle.stream.specs.Flow.{bind}
-use Rattle.stream.specs.Scan.{scan}
-use Rattle.stream.specs.Words.{startsWith, isCurrByteEq}
-use Rattle.stream.specs.Faults.{place, consumeByte, consumeString, parseListSeparator, unexpectedEnd, invalidChar}
+use Rattle.bytes.specs.Flow.{bind}
+use Rattle.bytes.specs.Words.{startsWith, isCurrByteEq}
+use Rattle.bytes.specs.Moves.{place}
+use Rattle.stream.specs.Faults.{consumeByte, consumeString, parseListSeparator, unexpectedEnd, invalidChar}
 use Rattle.stream.specs.Moves.{thenConsumed}
-use Rattle.stream.specs.declared.Place.{Place}
+use Rattle.bytes.specs.declared.Place.{Place}
 use Rattle.stream.specs.declared.Fault.{Fault}
 use Rattle.stream.specs.declared.Consumed.{Consumed}
 use Rattle.stream.specs.declared.Consumed.the-variants as C
-use Rattle.stream.proofs.Ranges.{either}
-use Rattle.stream.proofs.Wording.{curr-inside, curr-byte}
-use Rattle.stream.proofs.Ahead.{Ahead, Passes, free, ahead-inside, ahead-byte, ahead-scan, ahead-pass, pass-one, pass-here, getD-more, scan-more, starts-more, end-more, part-more, word-stop, hex-stop, url-stop, digit-stop}
+use Rattle.bytes.proofs.Ranges.{either}
+use Rattle.bytes.proofs.Wording.{curr-inside, curr-byte}
+use Rattle.bytes.proofs.Ahead.{Ahead, Passes, free, ahead-inside, ahead-byte, ahead-scan, ahead-pass, pass-one, pass-here, getD-more, scan-more, starts-more, end-more, part-more, word-stop, hex-stop, url-stop, digit-stop}
 
 pub same-cond : {A : Type 0} (t t′ : Bool) (x x′ y y′ : A) → t′ ≡ t → (t ≡ true → x′ ≡ x) → (t ≡ false → y′ ≡ y) → cond t′ x′ y′ ≡ cond t x y
 same-cond true t′ x x′ y y′ e f g = rw (e, f refl)

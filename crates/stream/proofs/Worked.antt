@@ -2,13 +2,14 @@
 use Prim.Native.Nat.{ℕ}
 use mathlib.Core.List.{List, [], _∷_, _++_}
 use mathlib.Core.Path.{_≡_, refl}
-use Rattle.stream.specs.Bytes.{within}
-use Rattle.stream.specs.Words.{ascii, startsWith}
-use Rattle.stream.specs.Characters.{keeps, rowOf, lenAt, charLen, walk, utf8Of, firsts, count, calcCharPosAt, onCharacter, skipChars}
-use Rattle.stream.specs.Blanks.{blank1, blank2, blank3, blankLen, blankAt, byteBefore, blankEnd, blankBefore, front, trimStart, back, trimEnd, trimOf}
-use Rattle.stream.specs.Faults.{place, invalidString, consumeString}
+use Rattle.bytes.specs.Bytes.{within}
+use Rattle.bytes.specs.Words.{ascii, startsWith}
+use Rattle.utf8.specs.Characters.{keeps, rowOf, lenAt, charLen, walk, utf8Of, firsts, count, calcCharPosAt, onCharacter, skipChars}
+use Rattle.utf8.specs.Blanks.{blank1, blank2, blank3, blankLen, blankAt, byteBefore, blankEnd, blankBefore, front, trimStart, back, trimEnd, trimOf}
+use Rattle.bytes.specs.Moves.{place}
+use Rattle.stream.specs.Faults.{invalidString, consumeString}
 use Rattle.stream.specs.Refusals.{bareRefusal, illFormed, admitUtf8, admitText, admitPlace}
-use Rattle.stream.specs.declared.Utf8.the-variants.{WellFormed, IllFormed}
+use Rattle.utf8.specs.declared.Utf8.the-variants.{IllFormed}
 use Rattle.stream.specs.declared.Admission.the-variants as A
 use Rattle.stream.specs.declared.Consumed.the-variants as C
 

@@ -4,17 +4,14 @@ use mathlib.Core.Bool.{cond}
 use mathlib.Core.List.{List}
 use lib.Dec.{leb, eqb}
 use lib.ListN.{length, getD, drop}
-use Rattle.stream.specs.Words.{startsWith, isCurrByteEq}
-use Rattle.stream.specs.Characters.{skipChars}
-use Rattle.stream.specs.declared.Place.{Place}
+use Rattle.bytes.specs.Words.{startsWith, isCurrByteEq}
+use Rattle.utf8.specs.Characters.{skipChars}
+use Rattle.bytes.specs.Moves.{place}
 use Rattle.stream.specs.declared.Trouble.{Trouble}
 use Rattle.stream.specs.declared.Trouble.the-variants as T
 use Rattle.stream.specs.declared.Fault.{Fault}
 use Rattle.stream.specs.declared.Consumed.{Consumed}
 use Rattle.stream.specs.declared.Consumed.the-variants as C
-
-abbrev pub place : ℕ → Place
-place i = record { 0 = i }
 
 -- a trouble that shows no bytes: the place its position is taken from, and the stretch refused
 abbrev pub troubleAt : Trouble → ℕ → ℕ → ℕ → Fault

@@ -1,9 +1,3 @@
-pub mod Bytes
-pub mod Scan
-pub mod Flow
-pub mod Words
-pub mod Characters
-pub mod Faults
 pub mod Moves
-pub mod Blanks
+pub mod Faults
 pub mod Refusals

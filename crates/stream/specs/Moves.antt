@@ -2,20 +2,12 @@
 use Prim.Native.Nat.{ℕ, _+_}
 use mathlib.Core.Bool.{cond}
 use lib.Dec.{leb, eqb}
-use Rattle.stream.specs.declared.Place.{Place}
-use Rattle.stream.specs.declared.Part.{Part}
+use Rattle.bytes.specs.declared.Place.{Place}
 use Rattle.stream.specs.declared.Fault.{Fault}
 use Rattle.stream.specs.declared.Refusal.{Refusal}
 use Rattle.stream.specs.declared.Consumed.{Consumed}
 use Rattle.stream.specs.declared.Consumed.the-variants as C
-use Rattle.stream.specs.declared.Utf8.{Utf8}
-use Rattle.stream.specs.declared.Utf8.the-variants.{WellFormed, IllFormed}
-
-abbrev pub movePlace : ℕ → Place → Place
-movePlace n p = record { 0 = n + p .0 }
-
-abbrev pub movePart : ℕ → Part → Part
-movePart n p = record { start = movePlace n (p .start); len = p .len }
+use Rattle.bytes.specs.Moves.{movePlace}
 
 -- every place of a fault moves, and nothing else
 abbrev pub moveFault : ℕ → Fault → Fault
@@ -32,10 +24,6 @@ moveFault n f =
 abbrev pub moveConsumed : ℕ → Consumed → Consumed
 moveConsumed n (C.Next p) = C.Next (movePlace n p)
 moveConsumed n (C.Refused f) = C.Refused (moveFault n f)
-
-abbrev pub moveUtf8 : ℕ → Utf8 → Utf8
-moveUtf8 n WellFormed = WellFormed
-moveUtf8 n (IllFormed p) = IllFormed (movePlace n p)
 
 -- A refusal whose text follows n bytes of k characters: a listed position moves by the characters, the part of 8 by the bytes, and all else stays; 1 to 5 list no position
 abbrev pub moveRefusal : ℕ → ℕ → Refusal → Refusal

@@ -4,14 +4,14 @@ use mathlib.Core.Bool.{Bool, cond}
 use mathlib.Core.List.{List}
 use lib.Dec.{leb, eqb}
 use lib.ListN.{length}
-use Rattle.stream.specs.Characters.{utf8Of, calcCharPosAt, onCharacter}
+use Rattle.utf8.specs.Characters.{utf8Of, calcCharPosAt, onCharacter}
 use Rattle.stream.specs.declared.Trouble.{Trouble}
 use Rattle.stream.specs.declared.Trouble.the-variants as T
 use Rattle.stream.specs.declared.Fault.{Fault}
 use Rattle.stream.specs.declared.Refusal.{Refusal}
-use Rattle.stream.specs.declared.Place.{Place}
-use Rattle.stream.specs.declared.Utf8.{Utf8}
-use Rattle.stream.specs.declared.Utf8.the-variants.{WellFormed, IllFormed}
+use Rattle.bytes.specs.declared.Place.{Place}
+use Rattle.utf8.specs.declared.Utf8.{Utf8}
+use Rattle.utf8.specs.declared.Utf8.the-variants.{WellFormed, IllFormed}
 use Rattle.stream.specs.declared.Admission.{Admission}
 use Rattle.stream.specs.declared.Admission.the-variants as A
 

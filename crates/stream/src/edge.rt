@@ -1,19 +1,19 @@
 // The edge: which text may be read, and the numbers of document 01.
 ghost use mathlib.Core.Path.{_≡_};
 ghost use Prim.Native.Nat.{_-_};
-ghost use Rattle.stream.specs.Characters.{utf8Of, onCharacter};
+ghost use Rattle.utf8.specs.Characters.{utf8Of, onCharacter};
 ghost use Rattle.stream.specs.Refusals.{numberOf, bareRefusal, refusalOf, isOutsideDomain, illFormed, admitText, admitPlace};
 use crate::Admission;
 use crate::Fault;
-use crate::Part;
-use crate::Place;
-use crate::Position;
 use crate::Refusal;
 use crate::Trouble;
-use crate::Utf8;
-use crate::calc_char_pos_at;
-use crate::is_tail;
-use crate::utf8_test;
+use bytes::Part;
+use bytes::Place;
+use bytes::is_tail;
+use utf8::Position;
+use utf8::Utf8;
+use utf8::calc_char_pos_at;
+use utf8::utf8_test;
 
 fn number_of(trouble: Trouble) -> u8
     ensures { λ r. ⌜ r ≡ numberOf trouble ⌝ }
@@ -38,7 +38,7 @@ fn number_of(trouble: Trouble) -> u8
 }
 
 // A refusal that tells nothing but its number.
-fn bare_refusal(number: u8) -> Refusal
+pub fn bare_refusal(number: u8) -> Refusal
     ensures { λ r. ⌜ r ≡ bareRefusal number ⌝ }
 {
     Refusal {
@@ -144,11 +144,12 @@ pub fn admit_text(text: &[u8]) -> Admission
     }
 }
 
-// Whether a list in a text may be read from a place: 1, 2, then 3.
-pub fn admit_place(text: &[u8], place: Place) -> Admission
+// Whether a list may be read from a place of a text whose admission is known.
+pub fn admit_from(text: &[u8], admission: Admission, place: Place) -> Admission
+    requires { ⌜ admission ≡ admitText (now text) ⌝ }
     ensures { λ r. ⌜ r ≡ admitPlace (now (text .entry)) (place .0) ⌝ }
 {
-    match admit_text(text) {
+    match admission {
         Admission::Refused(refusal) => Admission::Refused(refusal),
         Admission::Admitted => {
             if on_character(text, place) {
@@ -158,4 +159,11 @@ pub fn admit_place(text: &[u8], place: Place) -> Admission
             }
         }
     }
+}
+
+// Whether a list in a text may be read from a place: 1, 2, then 3.
+pub fn admit_place(text: &[u8], place: Place) -> Admission
+    ensures { λ r. ⌜ r ≡ admitPlace (now (text .entry)) (place .0) ⌝ }
+{
+    admit_from(text, admit_text(text), place)
 }

@@ -2,8 +2,8 @@
 ghost use mathlib.Core.Path.{_≡_};
 ghost use Rattle.stream.specs.Faults.{troubleAt, unexpectedEnd, invalidValue, unexpectedData, invalidChar};
 use crate::Fault;
-use crate::Place;
 use crate::Trouble;
+use bytes::Place;
 
 // A trouble that shows no bytes.
 pub fn trouble_at(trouble: Trouble, at: Place, from: Place, to: Place) -> Fault

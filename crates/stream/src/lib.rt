@@ -1,43 +1,24 @@
-// The lent text: places, positions and parts, classes of bytes, scans, words and bytes wanted.
+// Reading a lent text: bytes wanted, faults, refusals, and which text may be read.
 ghost use mathlib.Core.Path.{_≡_};
 ghost use Prim.Native.Nat.{min};
-ghost use lib.ListN.{drop, getD};
 ghost use Rattle.stream.specs.Faults.{consumeByte, consumeString, parseListSeparator};
-ghost use Rattle.stream.specs.Bytes.{isSign, isDigit, isUpper, isLower, within, isHexDigit, isSpace, isAsciiIdent, isTail, isLinkByte, isUrlByte, isOther, isBareByte};
-ghost use Rattle.stream.specs.Scan.{scan};
-ghost use Rattle.stream.specs.Words.{startsWith, isCurrByteEq, same, lowerOf, lowered};
+use bytes::Part;
+use bytes::Place;
+use utf8::Position;
 
-mod blanks;
-mod characters;
 mod edge;
 mod faults;
 
-pub use blanks::trim;
-pub use blanks::trim_end;
-pub use blanks::trimmed;
-pub use characters::calc_char_pos_at;
-pub use characters::skip_chars;
-pub use characters::utf8_test;
+pub use edge::admit_from;
 pub use edge::admit_place;
 pub use edge::admit_text;
+pub use edge::bare_refusal;
 pub use edge::is_outside_domain;
 pub use edge::refusal_of;
 pub use faults::invalid_value;
 pub use faults::trouble_at;
 pub use faults::unexpected_data;
 pub use faults::unexpected_end;
-
-// A byte offset, from 0.
-pub struct Place(pub usize);
-
-// A count of characters, from 1; 0 where a refusal lists none.
-pub struct Position(pub usize);
-
-// A part of a lent text.
-pub struct Part {
-    pub start: Place,
-    pub len: usize,
-}
 
 // What is wrong, by the crate's names; the five troubles of a number are document 02's.
 pub enum Trouble {
@@ -85,126 +66,10 @@ pub enum Consumed {
     Refused(Fault),
 }
 
-// What RFC 3629's test finds: a text, or the place of the first ill-formed sequence.
-pub enum Utf8 {
-    WellFormed,
-    IllFormed(Place),
-}
-
 // Whether an outside call may read a text.
 pub enum Admission {
     Admitted,
     Refused(Refusal),
-}
-
-pub fn is_sign(b: u8) -> bool
-    ensures { λ r. ⌜ r ≡ isSign b ⌝ }
-{
-    (b == b'+') | (b == b'-')
-}
-
-pub fn is_digit(b: u8) -> bool
-    ensures { λ r. ⌜ r ≡ isDigit b ⌝ }
-{
-    match b {
-        b'0'..=b'9' => true,
-        _ => false,
-    }
-}
-
-fn in_range(b: u8, lo: u8, hi: u8) -> bool
-    ensures { λ r. ⌜ r ≡ within lo hi b ⌝ }
-{
-    (lo <= b) & (b <= hi)
-}
-
-pub fn is_hex_digit(b: u8) -> bool
-    ensures { λ r. ⌜ r ≡ isHexDigit b ⌝ }
-{
-    is_digit(b) | (in_range(b, b'A', b'F') | in_range(b, b'a', b'f'))
-}
-
-pub fn is_space(b: u8) -> bool
-    ensures { λ r. ⌜ r ≡ isSpace b ⌝ }
-{
-    (b == b' ') | ((b == b'\t') | ((b == b'\n') | (b == b'\r')))
-}
-
-// A byte of a word. Small letters, which most of them are, are seen first.
-pub fn is_ascii_ident(b: u8) -> bool
-    ensures { λ r. ⌜ r ≡ isAsciiIdent b ⌝ }
-{
-    if in_range(b, b'a', b'z') {
-        return true;
-    }
-    is_digit(b) | (in_range(b, b'A', b'Z') | ((b == b'-') | (b == b'_')))
-}
-
-// A byte that continues a character.
-pub fn is_tail(b: u8) -> bool
-    ensures { λ r. ⌜ r ≡ isTail b ⌝ }
-{
-    in_range(b, 0x80, 0xbf)
-}
-
-// The byte at a place, 0 past the end: no class that is asked for has the 0.
-pub fn byte_at(text: &[u8], at: usize) -> u8
-    ensures { λ r. ⌜ r ≡ getD (now (text .entry)) at 0 ⌝ }
-{
-    if at < text.len() { text[at] } else { 0 }
-}
-
-// Whether a byte stands at a place and is `c`.
-pub fn is_curr_byte_eq(text: &[u8], at: Place, c: u8) -> bool
-    ensures { λ r. ⌜ r ≡ isCurrByteEq (now (text .entry)) (at .0) c ⌝ }
-{
-    let i = at.0;
-    if i < text.len() { text[i] == c } else { false }
-}
-
-// The first place at or after `at` whose byte is no space, or the end.
-pub fn skip_spaces(text: &[u8], at: Place) -> Place
-    ensures { λ r. ⌜ r .0 ≡ scan isSpace (now (text .entry)) (at .0) ⌝ }
-{
-    let mut i = at.0;
-    while i < text.len() {
-        if is_space(text[i]) {
-            i += 1;
-        } else {
-            return Place(i);
-        }
-    }
-    Place(i)
-}
-
-// Whether `text` begins with `word`. The length is judged once: the loop then only compares.
-pub fn begins(text: &[u8], word: &[u8]) -> bool
-    ensures { λ r. ⌜ r ≡ startsWith (now (word .entry)) (now (text .entry)) ⌝ }
-{
-    if text.len() < word.len() {
-        return false;
-    }
-    let mut k: usize = 0;
-    while k < word.len() {
-        if text[k] == word[k] {
-            k += 1;
-        } else {
-            return false;
-        }
-    }
-    true
-}
-
-// Whether `word` stands at `at`.
-pub fn starts_with(text: &[u8], at: Place, word: &[u8]) -> bool
-    ensures { λ r. ⌜ r ≡ startsWith (now (word .entry)) (drop (at .0) (now (text .entry))) ⌝ }
-{
-    let i = at.0;
-    if i <= text.len() {
-        begins(&text[i..], word)
-    } else {
-        begins(&text[..0], word)
-    }
 }
 
 // The place after the byte `c`, which is wanted at `at`.
@@ -243,193 +108,18 @@ pub fn consume_string(text: &[u8], at: Place, word: &[u8]) -> Consumed
     if text.len() <= i {
         return Consumed::Refused(unexpected_end(text));
     }
-    if starts_with(text, at, word) {
+    if bytes::starts_with(text, at, word) {
         return Consumed::Next(Place(i + word.len()));
     }
-    let end = skip_chars(text, at, smaller(word.len(), text.len() - i));
+    let end = utf8::skip_chars(text, at, smaller(word.len(), text.len() - i));
     Consumed::Refused(trouble_at(Trouble::InvalidString, at, at, end))
-}
-
-// Whether two texts are the same bytes.
-pub fn equals(text: &[u8], word: &[u8]) -> bool
-    ensures { λ r. ⌜ r ≡ same (now (text .entry)) (now (word .entry)) ⌝ }
-{
-    if text.len() == word.len() {
-        begins(text, word)
-    } else {
-        false
-    }
-}
-
-pub fn to_ascii_lowercase(b: u8) -> u8
-    ensures { λ r. ⌜ r ≡ lowerOf b ⌝ }
-{
-    if in_range(b, b'A', b'Z') { b + 32 } else { b }
-}
-
-// Whether `text`, in lower case, begins with `word`.
-fn begins_lowered(text: &[u8], word: &[u8]) -> bool
-    ensures { λ r. ⌜ r ≡ startsWith (now (word .entry)) (lowered (now (text .entry))) ⌝ }
-{
-    if text.len() < word.len() {
-        return false;
-    }
-    let mut k: usize = 0;
-    while k < word.len() {
-        if to_ascii_lowercase(text[k]) == word[k] {
-            k += 1;
-        } else {
-            return false;
-        }
-    }
-    true
-}
-
-// Whether `text`, letter case ignored, is `word`, which is in lower case.
-pub fn equals_lowered(text: &[u8], word: &[u8]) -> bool
-    ensures { λ r. ⌜ r ≡ same (lowered (now (text .entry))) (now (word .entry)) ⌝ }
-{
-    if text.len() == word.len() {
-        begins_lowered(text, word)
-    } else {
-        false
-    }
-}
-
-// The end of the word that starts at `at`.
-pub fn consume_ascii_ident(text: &[u8], at: Place) -> Place
-    ensures { λ r. ⌜ r .0 ≡ scan isAsciiIdent (now (text .entry)) (at .0) ⌝ }
-{
-    let mut i = at.0;
-    while i < text.len() {
-        if is_ascii_ident(text[i]) {
-            i += 1;
-        } else {
-            return Place(i);
-        }
-    }
-    Place(i)
-}
-
-// The end of the run of digits at `at`.
-pub fn skip_digits(text: &[u8], at: Place) -> Place
-    ensures { λ r. ⌜ r .0 ≡ scan isDigit (now (text .entry)) (at .0) ⌝ }
-{
-    let mut i = at.0;
-    while i < text.len() {
-        if is_digit(text[i]) {
-            i += 1;
-        } else {
-            return Place(i);
-        }
-    }
-    Place(i)
-}
-
-// The end of the run of hex digits at `at`.
-pub fn skip_hex_digits(text: &[u8], at: Place) -> Place
-    ensures { λ r. ⌜ r .0 ≡ scan isHexDigit (now (text .entry)) (at .0) ⌝ }
-{
-    let mut i = at.0;
-    while i < text.len() {
-        if is_hex_digit(text[i]) {
-            i += 1;
-        } else {
-            return Place(i);
-        }
-    }
-    Place(i)
-}
-
-fn is_link_byte(b: u8) -> bool
-    ensures { λ r. ⌜ r ≡ isLinkByte b ⌝ }
-{
-    b != b' '
-}
-
-fn is_url_byte(b: u8) -> bool
-    ensures { λ r. ⌜ r ≡ isUrlByte b ⌝ }
-{
-    (b != b' ') & (b != b')')
-}
-
-fn is_other(quote: u8, b: u8) -> bool
-    ensures { λ r. ⌜ r ≡ isOther quote b ⌝ }
-{
-    b != quote
-}
-
-// The first space at or after `at`, or the end.
-pub fn skip_to_space(text: &[u8], at: Place) -> Place
-    ensures { λ r. ⌜ r .0 ≡ scan isLinkByte (now (text .entry)) (at .0) ⌝ }
-{
-    let mut i = at.0;
-    while i < text.len() {
-        if is_link_byte(text[i]) {
-            i += 1;
-        } else {
-            return Place(i);
-        }
-    }
-    Place(i)
-}
-
-// The first space or `)` at or after `at`, or the end.
-pub fn skip_to_space_or_bracket(text: &[u8], at: Place) -> Place
-    ensures { λ r. ⌜ r .0 ≡ scan isUrlByte (now (text .entry)) (at .0) ⌝ }
-{
-    let mut i = at.0;
-    while i < text.len() {
-        if is_url_byte(text[i]) {
-            i += 1;
-        } else {
-            return Place(i);
-        }
-    }
-    Place(i)
-}
-
-// The first `quote` at or after `at`, or the end.
-pub fn skip_to_quote(text: &[u8], at: Place, quote: u8) -> Place
-    ensures { λ r. ⌜ r .0 ≡ scan (isOther quote) (now (text .entry)) (at .0) ⌝ }
-{
-    let mut i = at.0;
-    while i < text.len() {
-        if is_other(quote, text[i]) {
-            i += 1;
-        } else {
-            return Place(i);
-        }
-    }
-    Place(i)
-}
-
-fn is_bare_byte(b: u8) -> bool
-    ensures { λ r. ⌜ r ≡ isBareByte b ⌝ }
-{
-    in_range(b, 42, 127)
-}
-
-// The end of the run at `at` of bytes that no reader of a link has to judge: most links are such a run.
-pub fn skip_bare(text: &[u8], at: Place) -> Place
-    ensures { λ r. ⌜ r .0 ≡ scan isBareByte (now (text .entry)) (at .0) ⌝ }
-{
-    let mut i = at.0;
-    while i < text.len() {
-        if is_bare_byte(text[i]) {
-            i += 1;
-        } else {
-            return Place(i);
-        }
-    }
-    Place(i)
 }
 
 // The place after one optional comma.
 pub fn parse_list_separator(text: &[u8], at: Place) -> Place
     ensures { λ r. ⌜ r .0 ≡ parseListSeparator (now (text .entry)) (at .0) ⌝ }
 {
-    if is_curr_byte_eq(text, at, b',') {
+    if bytes::is_curr_byte_eq(text, at, b',') {
         let i = at.0;
         return Place(i + 1);
     }

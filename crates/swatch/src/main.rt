@@ -1,9 +1,9 @@
 // Reads one colour text, up to the first line feed or the end of the input, and prints what it reads as.
+use bytes::Place;
 use color::Color;
 use color::ColorAnswer;
 use libc::STDIN_FILENO;
 use libc::STDOUT_FILENO;
-use stream::Place;
 use stream::Refusal;
 
 fn print_field(name: &[u8], n: u64) {
@@ -44,7 +44,7 @@ fn show(text: &[u8]) {
 }
 
 fn line_end(input: &[u8]) -> usize {
-    let end = stream::skip_to_quote(input, Place(0), b'\n');
+    let end = bytes::skip_to_quote(input, Place(0), b'\n');
     end.0
 }
 

@@ -1,8 +1,8 @@
 use mathlib.Core.Path.{refl}
 use denote.Ref.{now}
-use Rattle.stream.specs.Words.{ascii}
-use Rattle.stream.proofs.Flows.{picks}
-use Rattle.stream.proofs.Wording.{word-fits}
+use Rattle.bytes.specs.Words.{ascii}
+use Rattle.bytes.proofs.Flows.{picks}
+use Rattle.bytes.proofs.Wording.{word-fits}
 use Rattle.angle.specs.Angles.{parseUnit}
 use borrow.Author.Needs.{needs}
 use Rattle.angle.proofs.parse_unit.Statement.{statement}

@@ -1,4 +1,4 @@
-use Rattle.stream.proofs.Flows.{flow}
+use Rattle.bytes.proofs.Flows.{flow}
 use Rattle.angle.proofs.Steps.{angled}
 use Rattle.angle.specs.Angles.{parseWhole}
 use borrow.Author.Needs.{needs}

@@ -1,4 +1,5 @@
-use Rattle.stream.proofs.Flows.{consumes, flow}
+use Rattle.stream.proofs.Flows.{consumes}
+use Rattle.bytes.proofs.Flows.{flow}
 use Rattle.color.specs.Color.{closeBracket}
 use borrow.Author.Needs.{needs}
 use Rattle.color.proofs.close_bracket.Statement.{statement}

@@ -1,4 +1,5 @@
-use Rattle.color.proofs.Naming.{named}
+use Rattle.color.proofs.Steps.{coloured, named}
+use Rattle.color.specs.Color.{namedColor}
 use borrow.Author.Needs.{needs}
 use Rattle.color.proofs.named_color.Statement.{statement}
 use Rattle.color.proofs.named_color.Tie as tie
@@ -8,7 +9,10 @@ named-color-spec =
     tie.close
     (tie.spec
     (λ c κs. search needs)
+    (λ c. search needs)
+    (λ c. search needs)
+    (λ c. search needs)
     (λ c κs. search needs)
-    (λ c. search (named, needs))
-    (λ c κs. search needs)
-    (λ c. search (named, needs)))
+    (λ c. unfold namedColor in search (named, coloured, needs) depth 20)
+    (λ c. unfold namedColor in search (named, coloured, needs) depth 20)
+    (λ c. unfold namedColor in search (named, coloured, needs) depth 20))

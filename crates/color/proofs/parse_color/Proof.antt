@@ -1,6 +1,5 @@
-use Rattle.stream.proofs.Flows.{flow}
+use Rattle.bytes.proofs.Flows.{flow}
 use Rattle.color.proofs.Steps.{coloured}
-use Rattle.color.proofs.Told.{told-color, rgb-anew}
 use Rattle.color.specs.Color.{parseColor}
 use borrow.Author.Needs.{needs}
 use Rattle.color.proofs.parse_color.Statement.{statement}
@@ -17,12 +16,5 @@ parse-color-spec =
     (λ c. search needs)
     (λ c κs. search needs)
     (λ c. unfold parseColor in search (flow, coloured, needs) depth 20)
-    (λ c. search needs)
-    (λ c κs. search needs)
-    (λ c. search needs)
-    (λ c. search needs)
-    (λ c. search needs)
-    (λ c κs. search needs)
-    (λ c. unfold parseColor in search (flow, coloured, told-color, rgb-anew, needs) depth 20)
     (λ c κs. search needs)
     (λ c. unfold parseColor in search (flow, coloured, needs) depth 20))

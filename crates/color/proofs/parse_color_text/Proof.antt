@@ -1,4 +1,4 @@
-use Rattle.stream.proofs.Flows.{flow}
+use Rattle.bytes.proofs.Flows.{flow}
 use Rattle.color.proofs.Steps.{coloured}
 use Rattle.color.specs.Color.{parseColorText}
 use borrow.Author.Needs.{needs}

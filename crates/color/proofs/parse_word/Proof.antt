@@ -1,6 +1,6 @@
-use Rattle.stream.proofs.Flows.{flow}
-use Rattle.stream.proofs.Scans.{from-scan, scan-inside}
-use Rattle.stream.specs.Words.{part}
+use Rattle.bytes.proofs.Flows.{flow}
+use Rattle.bytes.proofs.Scans.{from-scan, scan-inside}
+use Rattle.bytes.specs.Words.{part}
 use Rattle.color.specs.Color.{parseWord}
 use borrow.Author.Needs.{needs}
 use Rattle.color.proofs.parse_word.Statement.{statement}

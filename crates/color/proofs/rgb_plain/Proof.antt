@@ -1,5 +1,5 @@
 use Rattle.numbers.proofs.Steps.{numbered}
-use Rattle.stream.proofs.Flows.{flow}
+use Rattle.bytes.proofs.Flows.{flow}
 use Rattle.color.specs.Color.{rgbPlain}
 use borrow.Author.Needs.{needs}
 use Rattle.color.proofs.rgb_plain.Statement.{statement}

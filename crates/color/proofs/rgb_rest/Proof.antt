@@ -1,5 +1,5 @@
-use Rattle.stream.proofs.Flows.{flow}
-use Rattle.stream.proofs.Wording.{curr-next}
+use Rattle.bytes.proofs.Flows.{flow}
+use Rattle.bytes.proofs.Wording.{curr-next}
 use Rattle.color.specs.Color.{rgbRest}
 use borrow.Author.Needs.{needs}
 use Rattle.color.proofs.rgb_rest.Statement.{statement}

@@ -1,4 +1,4 @@
-use Rattle.stream.proofs.Flows.{flow}
+use Rattle.bytes.proofs.Flows.{flow}
 use Rattle.filter_functions.proofs.Steps.{step-refused}
 use Rattle.filter_functions.specs.Filters.{afterNone}
 use borrow.Author.Needs.{needs}

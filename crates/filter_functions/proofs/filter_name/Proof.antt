@@ -1,4 +1,4 @@
-use Rattle.stream.proofs.Flows.{pick-no, pick-yes}
+use Rattle.bytes.proofs.Flows.{pick-no, pick-yes}
 use Rattle.filter_functions.specs.Filters.{filterName}
 use borrow.Author.Needs.{needs}
 use Rattle.filter_functions.proofs.filter_name.Statement.{statement}

@@ -1,6 +1,8 @@
 use Rattle.stream.proofs.Edges.{edges, placed}
 use Rattle.filter_functions.proofs.Steps.{stepped}
-use Rattle.filter_functions.specs.Filters.{nextFilter}
+use Rattle.bytes.proofs.Flows.{also}
+use Rattle.filter_functions.specs.Filters.{nextFilter, stepOf}
+use Rattle.filter_functions.specs.Paper.{paperStep}
 use borrow.Author.Needs.{needs}
 use Rattle.filter_functions.proofs.next.Statement.{statement}
 use Rattle.filter_functions.proofs.next.Tie as tie
@@ -18,8 +20,8 @@ next-spec =
     (λ c. search needs)
     (λ c. search needs)
     (λ c κs. search (placed, needs))
-    (λ c. unfold nextFilter in search (edges, stepped, needs) depth 20)
-    (λ c. unfold nextFilter in search (edges, stepped, needs) depth 20)
-    (λ c. unfold nextFilter in search (edges, stepped, needs) depth 20)
-    (λ c. unfold nextFilter in search (edges, stepped, needs) depth 20)
-    (λ c. unfold nextFilter in search (edges, stepped, needs) depth 20))
+    (λ c. also paperStep (unfold nextFilter stepOf in search (edges, stepped, needs) depth 20))
+    (λ c. also paperStep (unfold nextFilter stepOf in search (edges, stepped, needs) depth 20))
+    (λ c. also paperStep (unfold nextFilter stepOf in search (edges, stepped, needs) depth 20))
+    (λ c. also paperStep (unfold nextFilter stepOf in search (edges, stepped, needs) depth 20))
+    (λ c. also paperStep (unfold nextFilter stepOf in search (edges, stepped, needs) depth 20)))

@@ -1,6 +1,7 @@
 use borrow.Author.Needs.{needs}
 use Rattle.funciri.specs.Link.{closeQuote}
-use Rattle.stream.proofs.Flows.{flow, consumes}
+use Rattle.bytes.proofs.Flows.{flow}
+use Rattle.stream.proofs.Flows.{consumes}
 use Rattle.funciri.proofs.close_quote.Statement.{statement}
 use Rattle.funciri.proofs.close_quote.Tie as tie
 

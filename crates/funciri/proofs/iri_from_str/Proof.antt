@@ -1,7 +1,8 @@
+use Rattle.funciri.specs.Paper.{paper}
 use borrow.Author.Needs.{needs}
 use Rattle.funciri.specs.Answers.{iriFromStr}
 use Rattle.stream.proofs.Edges.{edges, admitted-utf8}
-use Rattle.stream.proofs.Flows.{flow}
+use Rattle.bytes.proofs.Flows.{flow, also}
 use Rattle.funciri.proofs.iri_from_str.Statement.{statement}
 use Rattle.funciri.proofs.iri_from_str.Tie as tie
 
@@ -14,5 +15,5 @@ iri-from-str-spec =
     (λ c. search needs)
     (λ c κs. search needs)
     (λ c κs. search (admitted-utf8, needs))
-    (λ c. unfold iriFromStr in search (flow, edges, needs) depth 20)
-    (λ c. unfold iriFromStr in search (flow, edges, needs) depth 20))
+    (λ c. also paper (unfold iriFromStr in search (flow, edges, needs) depth 20))
+    (λ c. also paper (unfold iriFromStr in search (flow, edges, needs) depth 20)))

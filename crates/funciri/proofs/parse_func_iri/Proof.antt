@@ -1,6 +1,7 @@
 use borrow.Author.Needs.{needs}
 use Rattle.funciri.specs.Link.{parseFuncIri}
-use Rattle.stream.proofs.Flows.{flow, consumes}
+use Rattle.bytes.proofs.Flows.{flow}
+use Rattle.stream.proofs.Flows.{consumes}
 use Rattle.funciri.proofs.Quotes.{quote-next}
 use Rattle.funciri.proofs.parse_func_iri.Statement.{statement}
 use Rattle.funciri.proofs.parse_func_iri.Tie as tie

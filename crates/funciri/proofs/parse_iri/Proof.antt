@@ -1,6 +1,7 @@
 use borrow.Author.Needs.{needs}
 use Rattle.funciri.specs.Link.{parseIri}
-use Rattle.stream.proofs.Flows.{flow, consumes}
+use Rattle.bytes.proofs.Flows.{flow}
+use Rattle.stream.proofs.Flows.{consumes}
 use Rattle.funciri.proofs.Steps.{link-refused}
 use Rattle.funciri.proofs.parse_iri.Statement.{statement}
 use Rattle.funciri.proofs.parse_iri.Tie as tie

@@ -1,8 +1,8 @@
 use borrow.Author.Needs.{needs}
-use Rattle.stream.specs.Words.{part}
+use Rattle.bytes.specs.Words.{part}
 use Rattle.funciri.specs.Link.{plainLink}
-use Rattle.stream.proofs.Flows.{flow, consumes}
-use Rattle.funciri.proofs.Bare.{bare-next, plain-quick}
+use Rattle.bytes.proofs.Flows.{flow}
+use Rattle.stream.proofs.Flows.{consumes}
 use Rattle.funciri.proofs.Spans.{runs}
 use Rattle.funciri.proofs.Steps.{link-refused}
 use Rattle.funciri.proofs.plain_link.Statement.{statement}
@@ -15,11 +15,6 @@ plain-link-spec =
     (λ c κs. search needs)
     (λ c. search needs)
     (λ c. search needs)
-    (λ c κs. search needs)
-    (λ c κs. search needs)
-    (λ c. search (runs, needs))
-    (λ c. search (bare-next, needs))
-    (λ c. unfold plainLink in search (consumes, plain-quick, needs) depth 20)
     (λ c κs. search needs)
     (λ c. search (runs, needs))
     (λ c. search (runs, needs))

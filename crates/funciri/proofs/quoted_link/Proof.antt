@@ -1,9 +1,9 @@
 use borrow.Author.Needs.{needs}
-use Rattle.stream.specs.Words.{part}
+use Rattle.bytes.specs.Words.{part}
 use Rattle.funciri.specs.Link.{quotedLink}
-use Rattle.stream.proofs.Flows.{flow, consumes}
-use Rattle.stream.proofs.Trimming.{parted}
-use Rattle.funciri.proofs.Bare.{bare-next, quoted-quick}
+use Rattle.utf8.proofs.Trimming.{parted}
+use Rattle.bytes.proofs.Flows.{flow}
+use Rattle.stream.proofs.Flows.{consumes}
 use Rattle.funciri.proofs.Spans.{runs}
 use Rattle.funciri.proofs.Steps.{link-refused}
 use Rattle.funciri.proofs.quoted_link.Statement.{statement}
@@ -17,13 +17,6 @@ quoted-link-spec =
     (λ c κs. search needs)
     (λ c. search needs)
     (λ c. search needs)
-    (λ c κs. search needs)
-    (λ c κs. search needs)
-    (λ c κs. search needs)
-    (λ c. search (runs, needs))
-    (λ c. search (bare-next, needs))
-    (λ c κs. search needs)
-    (λ c. unfold quotedLink in search (flow, consumes, quoted-quick, needs) depth 20)
     (λ c κs. search needs)
     (λ c. search (runs, needs))
     (λ c. search (runs, needs))

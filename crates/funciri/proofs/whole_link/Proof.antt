@@ -1,6 +1,6 @@
 use borrow.Author.Needs.{needs}
 use Rattle.funciri.specs.Answers.{wholeLink}
-use Rattle.stream.proofs.Flows.{flow}
+use Rattle.bytes.proofs.Flows.{flow}
 use Rattle.funciri.proofs.Steps.{linked, answer-refused, answer-fault}
 use Rattle.funciri.proofs.whole_link.Statement.{statement}
 use Rattle.funciri.proofs.whole_link.Tie as tie

@@ -1,4 +1,4 @@
-use Rattle.stream.proofs.Flows.{flow}
+use Rattle.bytes.proofs.Flows.{flow}
 use Rattle.length.proofs.Steps.{lengthed}
 use Rattle.length.specs.Lengths.{parseWhole}
 use borrow.Author.Needs.{needs}

@@ -1,4 +1,4 @@
-use Rattle.stream.proofs.Flows.{picks}
+use Rattle.bytes.proofs.Flows.{picks}
 use Rattle.length.specs.Lengths.{unitRest}
 use borrow.Author.Needs.{needs}
 use Rattle.length.proofs.unit_rest.Statement.{statement}

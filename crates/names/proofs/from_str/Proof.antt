@@ -1,5 +1,6 @@
-use Rattle.names.proofs.Naming.{packings}
-use Rattle.names.proofs.Small.{written}
+use Rattle.names.proofs.Lent.{tables-hold}
+use Rattle.bytes.specs.Words.{part, same}
+use Rattle.names.specs.Keywords.{keywords}
 use borrow.Author.Needs.{needs}
 use Rattle.names.proofs.from_str.Statement.{statement}
 use Rattle.names.proofs.from_str.Tie as tie
@@ -10,23 +11,5 @@ from-str-spec =
     (tie.spec
     (λ c. search needs)
     (λ c. search needs)
-    (λ c. search needs)
-    (λ c κs. search needs)
-    (λ c. search (written, needs))
-    (λ c κs. search needs)
-    (λ c. search (written, needs))
-    (λ c κs. search needs)
-    (λ c. search needs)
-    (λ c. search needs)
-    (λ c. search needs)
-    (λ c. search needs)
-    (λ c. search needs)
-    (λ c. search needs)
-    (λ c. search needs)
-    (λ c. search needs)
-    (λ c. search needs)
-    (λ c. search needs)
-    (λ c. search needs)
-    (λ c. search (packings, needs))
-    (λ c. search (packings, needs))
-    (λ c. search (packings, needs)))
+    (λ c κs. unfold keywords part same in tables-hold _ _ tt tt tt tt)
+    (λ c. search needs))

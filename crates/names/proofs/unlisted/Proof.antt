@@ -1,4 +1,4 @@
-use Rattle.stream.proofs.Flows.{picks}
+use Rattle.bytes.proofs.Flows.{picks}
 use Rattle.names.specs.Look.{lookUp}
 use borrow.Author.Needs.{needs}
 use Rattle.names.proofs.unlisted.Statement.{statement}

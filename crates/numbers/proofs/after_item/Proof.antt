@@ -1,5 +1,5 @@
 use Rattle.numbers.proofs.Steps.{numbered}
-use Rattle.stream.proofs.Flows.{flow}
+use Rattle.bytes.proofs.Flows.{flow}
 use Rattle.numbers.specs.Number.{afterItem}
 use borrow.Author.Needs.{needs}
 use Rattle.numbers.proofs.after_item.Statement.{statement}

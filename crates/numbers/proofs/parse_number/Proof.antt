@@ -1,4 +1,5 @@
-use Rattle.numbers.proofs.Steps.{plains}
+use Rattle.bytes.proofs.Flows.{flow}
+use Rattle.numbers.specs.Number.{parseNumber}
 use borrow.Author.Needs.{needs}
 use Rattle.numbers.proofs.parse_number.Statement.{statement}
 use Rattle.numbers.proofs.parse_number.Tie as tie
@@ -9,9 +10,10 @@ parse-number-spec =
     (tie.spec
     (λ c κs. search needs)
     (λ c κs. search needs)
+    (λ c. unfold parseNumber in search (flow, needs) depth 20)
+    (λ c. search needs)
     (λ c κs. search needs)
     (λ c κs. search needs)
-    (λ c κs. search (plains, needs))
-    (λ c. search (plains, needs))
-    (λ c κs. search (plains, needs))
-    (λ c. search (plains, needs)))
+    (λ c. unfold parseNumber in search (flow, needs) depth 20)
+    (λ c κs. search needs)
+    (λ c. unfold parseNumber in search (flow, needs) depth 20))

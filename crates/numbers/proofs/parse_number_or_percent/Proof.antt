@@ -1,6 +1,6 @@
 use Rattle.numbers.proofs.Steps.{numbered}
-use Rattle.stream.proofs.Wording.{curr-next}
-use Rattle.stream.proofs.Flows.{flow}
+use Rattle.bytes.proofs.Wording.{curr-next}
+use Rattle.bytes.proofs.Flows.{flow}
 use Rattle.numbers.specs.Number.{parseNumberOrPercent}
 use borrow.Author.Needs.{needs}
 use Rattle.numbers.proofs.parse_number_or_percent.Statement.{statement}

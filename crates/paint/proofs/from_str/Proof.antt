@@ -1,6 +1,9 @@
+use Rattle.paint.specs.Paper.{paper}
 use borrow.Author.Needs.{needs}
-use Rattle.color.proofs.Flat.{whole-alone}
-use Rattle.paint.proofs.Firsts.{none-alone, hex-paint}
+use Rattle.stream.proofs.Edges.{edges}
+use Rattle.bytes.proofs.Flows.{flow, also}
+use Rattle.paint.specs.Answers.{fromStr}
+use Rattle.paint.proofs.Steps.{cuts, answers}
 use Rattle.paint.proofs.from_str.Statement.{statement}
 use Rattle.paint.proofs.from_str.Tie as tie
 
@@ -8,15 +11,19 @@ pub from-str-spec : {M : Type 1} → statement M
 from-str-spec =
     tie.close
     (tie.spec
-    (λ c. search needs)
-    (λ c κs. search needs)
-    (λ c. search (none-alone, needs))
     (λ c κs. search needs)
     (λ c. search needs)
     (λ c. search needs)
+    (λ c κs. search needs)
+    (λ c κs. search needs)
+    (λ c κs. search (cuts, needs))
     (λ c. search needs)
-    (λ c κs. search needs)
-    (λ c κs. search needs)
-    (λ c. search (hex-paint, whole-alone, needs))
-    (λ c κs. search needs)
-    (λ c. search needs))
+    (λ c κs. search (cuts, needs))
+    (λ c. search needs)
+    (λ c. search (cuts, needs))
+    (λ c. search (cuts, needs))
+    (λ c. search needs)
+    (λ c κs. search (cuts, needs))
+    (λ c. also paper (unfold fromStr in search (edges, flow, answers, needs) depth 20))
+    (λ c. also paper (unfold fromStr in search (edges, flow, answers, needs) depth 20))
+    (λ c. also paper (unfold fromStr in search (edges, flow, answers, needs) depth 20)))

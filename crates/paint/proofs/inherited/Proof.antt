@@ -1,5 +1,6 @@
+use Rattle.paint.specs.Paper.{paperInherited}
 use borrow.Author.Needs.{needs}
-use Rattle.stream.proofs.Flows.{flow}
+use Rattle.bytes.proofs.Flows.{flow, also}
 use Rattle.paint.specs.Answers.{inheritedOf}
 use Rattle.paint.proofs.Steps.{paints}
 use Rattle.paint.proofs.inherited.Statement.{statement}
@@ -17,8 +18,8 @@ inherited-spec =
     (λ c. search needs)
     (λ c. search needs)
     (λ c κs. search needs)
-    (λ c. unfold inheritedOf in search (flow, paints, needs) depth 20)
-    (λ c. unfold inheritedOf in search (flow, paints, needs) depth 20)
+    (λ c. also paperInherited (unfold inheritedOf in search (flow, paints, needs) depth 20))
+    (λ c. also paperInherited (unfold inheritedOf in search (flow, paints, needs) depth 20))
     (λ c κs. search needs)
-    (λ c. unfold inheritedOf in search (flow, paints, needs) depth 20)
-    (λ c. unfold inheritedOf in search (flow, paints, needs) depth 20))
+    (λ c. also paperInherited (unfold inheritedOf in search (flow, paints, needs) depth 20))
+    (λ c. also paperInherited (unfold inheritedOf in search (flow, paints, needs) depth 20)))

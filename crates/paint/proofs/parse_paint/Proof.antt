@@ -1,7 +1,6 @@
 use borrow.Author.Needs.{needs}
-use Rattle.stream.proofs.Flows.{flow}
+use Rattle.bytes.proofs.Flows.{flow}
 use Rattle.paint.specs.Reading.{parsePaint}
-use Rattle.paint.proofs.Firsts.{linked-first}
 use Rattle.paint.proofs.parse_paint.Statement.{statement}
 use Rattle.paint.proofs.parse_paint.Tie as tie
 
@@ -11,10 +10,6 @@ parse-paint-spec =
     (tie.spec
     (λ c. search needs)
     (λ c κs. search needs)
-    (λ c κs. search needs)
-    (λ c. search (linked-first, needs))
-    (λ c. search needs)
-    (λ c κs. search needs)
     (λ c. unfold parsePaint in search (flow, needs) depth 20)
     (λ c. search needs)
     (λ c κs. search needs)
@@ -26,6 +21,10 @@ parse-paint-spec =
     (λ c κs. search needs)
     (λ c. unfold parsePaint in search (flow, needs) depth 20)
     (λ c. search needs)
+    (λ c κs. search needs)
+    (λ c. unfold parsePaint in search (flow, needs) depth 20)
+    (λ c. search needs)
+    (λ c κs. search needs)
     (λ c κs. search needs)
     (λ c. unfold parsePaint in search (flow, needs) depth 20)
     (λ c κs. search needs)

@@ -1,5 +1,5 @@
 use borrow.Author.Needs.{needs}
-use Rattle.stream.proofs.Flows.{flow}
+use Rattle.bytes.proofs.Flows.{flow}
 use Rattle.color.proofs.Steps.{coloured}
 use Rattle.paint.specs.Reading.{parsePlain}
 use Rattle.paint.proofs.Steps.{reads}

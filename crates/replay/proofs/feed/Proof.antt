@@ -1,12 +1,11 @@
 use lib.ListN.{length}
-use mathlib.Core.Path.{_≡_}
-use Prim.Native.Nat.{_-_}
+use Prim.Native.Nat.{_-_, _≤_}
 use borrow.Author.Needs.{needs}
 use Rattle.replay.proofs.feed.Statement.{statement}
 use Rattle.replay.proofs.feed.Tie as tie
 
 abbrev Inv-loop : tie.InvT-loop
-Inv-loop line₀ n chunk k₀ i₀ line k i = length line ≡ length line₀
+Inv-loop line₀ n chunk k₀ i₀ line k i = i ≤ length chunk
 
 abbrev μ-loop : tie.MeasureT-loop
 μ-loop line₀ n chunk k₀ i₀ line k i = length chunk - i
@@ -20,7 +19,6 @@ feed-spec =
     (λ c. search needs)
     (λ c. search needs)
     (λ c κs. search needs)
-    (λ c. search needs)
     (λ c. search needs)
     (λ c. search needs)
     (λ c. search needs)

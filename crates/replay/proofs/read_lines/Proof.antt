@@ -1,11 +1,10 @@
-use lib.ListN.{length}
-use mathlib.Core.Path.{_≡_}
+use Prim.Native.Nat.{_≤_}
 use borrow.Author.Needs.{needs}
 use Rattle.replay.proofs.read_lines.Statement.{statement}
 use Rattle.replay.proofs.read_lines.Tie as tie
 
 abbrev Inv-loop : tie.InvT-loop
-Inv-loop line₀ n₀ turns₀ line n turns = length line ≡ length line₀
+Inv-loop line₀ n₀ turns₀ line n turns = turns ≤ turns₀
 
 abbrev μ-loop : tie.MeasureT-loop
 μ-loop line₀ n₀ turns₀ line n turns = turns
@@ -25,9 +24,6 @@ read-lines-spec =
     (λ c. search needs)
     (λ c κs. search needs)
     (λ c κs. search needs)
-    (λ c. search needs)
-    (λ c. search needs)
-    (λ c. search needs)
     (λ c. search needs)
     (λ c. search needs)
     (λ c. search needs))

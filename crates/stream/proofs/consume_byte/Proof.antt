@@ -1,6 +1,7 @@
 use borrow.Author.Needs.{needs}
 use Rattle.stream.specs.Faults.{consumeByte}
-use Rattle.stream.proofs.Flows.{flow, consumed-refused}
+use Rattle.bytes.proofs.Flows.{flow}
+use Rattle.stream.proofs.Flows.{consumed-refused}
 use Rattle.stream.proofs.consume_byte.Statement.{statement}
 use Rattle.stream.proofs.consume_byte.Tie as tie
 

@@ -1,7 +1,8 @@
 use borrow.Author.Needs.{needs}
 use Rattle.stream.specs.Faults.{consumeString}
-use Rattle.stream.proofs.Flows.{flow, consumed-refused, string-other}
-use Rattle.stream.proofs.Wording.{word-add}
+use Rattle.bytes.proofs.Flows.{flow}
+use Rattle.stream.proofs.Flows.{consumed-refused, string-other}
+use Rattle.bytes.proofs.Wording.{word-add}
 use Rattle.stream.proofs.consume_string.Statement.{statement}
 use Rattle.stream.proofs.consume_string.Tie as tie
 

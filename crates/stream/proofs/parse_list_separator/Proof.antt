@@ -1,7 +1,7 @@
 use borrow.Author.Needs.{needs}
 use Rattle.stream.specs.Faults.{parseListSeparator}
-use Rattle.stream.proofs.Flows.{flow}
-use Rattle.stream.proofs.Wording.{curr-next}
+use Rattle.bytes.proofs.Flows.{flow}
+use Rattle.bytes.proofs.Wording.{curr-next}
 use Rattle.stream.proofs.parse_list_separator.Statement.{statement}
 use Rattle.stream.proofs.parse_list_separator.Tie as tie
 

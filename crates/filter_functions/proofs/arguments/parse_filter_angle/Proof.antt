@@ -1,5 +1,5 @@
-use Rattle.stream.proofs.Flows.{flow}
-use Rattle.numbers.proofs.Steps.{numbered, skipped-still}
+use Rattle.bytes.proofs.Flows.{flow}
+use Rattle.numbers.proofs.Steps.{numbered}
 use Rattle.angle.proofs.Steps.{angled}
 use Rattle.filter_functions.specs.Values.{parseFilterAngle}
 use borrow.Author.Needs.{needs}
@@ -11,7 +11,7 @@ parse-filter-angle-spec =
     tie.close
     (tie.spec
     (λ c κs. search needs)
-    (λ c κs. search (skipped-still, needs))
+    (λ c κs. search needs)
     (λ c. search needs)
     (λ c. search needs)
     (λ c κs. search needs)

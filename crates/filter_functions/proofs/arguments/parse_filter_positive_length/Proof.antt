@@ -1,4 +1,4 @@
-use Rattle.stream.proofs.Flows.{picks}
+use Rattle.bytes.proofs.Flows.{picks}
 use Rattle.length.proofs.Steps.{lengthed}
 use Rattle.filter_functions.specs.Values.{parseFilterPositiveLength}
 use borrow.Author.Needs.{needs}

@@ -1,4 +1,4 @@
-use Rattle.stream.proofs.Flows.{flow}
+use Rattle.bytes.proofs.Flows.{flow}
 use Rattle.numbers.proofs.Steps.{numbered}
 use Rattle.filter_functions.proofs.Steps.{filter-refused}
 use Rattle.filter_functions.specs.Values.{parseGenericColorFunc}

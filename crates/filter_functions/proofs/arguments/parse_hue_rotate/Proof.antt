@@ -1,4 +1,4 @@
-use Rattle.stream.proofs.Flows.{picks}
+use Rattle.bytes.proofs.Flows.{picks}
 use Rattle.angle.proofs.Steps.{angled}
 use Rattle.filter_functions.specs.Values.{parseHueRotate}
 use borrow.Author.Needs.{needs}

@@ -1,4 +1,5 @@
-use Rattle.stream.proofs.Flows.{consumes, flow}
+use Rattle.stream.proofs.Flows.{consumes}
+use Rattle.bytes.proofs.Flows.{flow}
 use Rattle.filter_functions.proofs.Steps.{filter-refused}
 use Rattle.filter_functions.specs.Values.{parseUrl}
 use borrow.Author.Needs.{needs}

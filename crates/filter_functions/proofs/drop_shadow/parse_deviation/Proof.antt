@@ -1,4 +1,4 @@
-use Rattle.stream.proofs.Flows.{flow}
+use Rattle.bytes.proofs.Flows.{flow}
 use Rattle.length.proofs.Steps.{lengthed}
 use Rattle.filter_functions.proofs.Steps.{deviation-of, eithers}
 use Rattle.filter_functions.specs.Shadow.{parseDeviation}

@@ -1,4 +1,4 @@
-use Rattle.stream.proofs.Flows.{bind-is}
+use Rattle.bytes.proofs.Flows.{bind-is}
 use Rattle.length.proofs.Steps.{lengthed, then-length}
 use Rattle.filter_functions.proofs.Steps.{deviated, then-no-deviation}
 use Rattle.filter_functions.specs.Shadow.{parseShadowLengths}

@@ -1,7 +1,7 @@
-use Rattle.stream.proofs.Flows.{picks}
+use Rattle.bytes.proofs.Flows.{picks}
 use Rattle.color.proofs.Steps.{coloured}
 use Rattle.filter_functions.specs.Shadow.{tryParseColor}
-use Rattle.stream.proofs.Wording.{word-fits}
+use Rattle.bytes.proofs.Wording.{word-fits}
 use borrow.Author.Needs.{needs}
 use Rattle.filter_functions.proofs.drop_shadow.try_parse_color.Statement.{statement}
 use Rattle.filter_functions.proofs.drop_shadow.try_parse_color.Tie as tie

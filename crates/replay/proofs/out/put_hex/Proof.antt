@@ -1,12 +1,11 @@
 use lib.ListN.{length}
-use mathlib.Core.Path.{_≡_}
-use Prim.Native.Nat.{_-_}
+use Prim.Native.Nat.{_-_, _≤_}
 use borrow.Author.Needs.{needs}
 use Rattle.replay.proofs.out.put_hex.Statement.{statement}
 use Rattle.replay.proofs.out.put_hex.Tie as tie
 
 abbrev Inv-loop : tie.InvT-loop
-Inv-loop out₀ at text k₀ i₀ out k i = length out ≡ length out₀
+Inv-loop out₀ at text k₀ i₀ out k i = i ≤ length text
 
 abbrev μ-loop : tie.MeasureT-loop
 μ-loop out₀ at text k₀ i₀ out k i = length text - i
@@ -22,9 +21,7 @@ put-hex-spec =
     (λ c. search needs)
     (λ c. search needs)
     (λ c. search needs)
-    (λ c. search needs)
     (λ c κs. search needs)
-    (λ c. search needs)
     (λ c. search needs)
     (λ c. search needs)
     (λ c. search needs)

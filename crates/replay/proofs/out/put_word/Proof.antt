@@ -1,12 +1,11 @@
 use lib.ListN.{length}
-use mathlib.Core.Path.{_≡_}
-use Prim.Native.Nat.{_-_}
+use Prim.Native.Nat.{_-_, _≤_}
 use borrow.Author.Needs.{needs}
 use Rattle.replay.proofs.out.put_word.Statement.{statement}
 use Rattle.replay.proofs.out.put_word.Tie as tie
 
 abbrev Inv-loop : tie.InvT-loop
-Inv-loop out₀ at word k₀ i₀ out k i = length out ≡ length out₀
+Inv-loop out₀ at word k₀ i₀ out k i = i ≤ length word
 
 abbrev μ-loop : tie.MeasureT-loop
 μ-loop out₀ at word k₀ i₀ out k i = length word - i
@@ -20,7 +19,6 @@ put-word-spec =
     (λ c. search needs)
     (λ c. search needs)
     (λ c κs. search needs)
-    (λ c. search needs)
     (λ c. search needs)
     (λ c. search needs)
     (λ c. search needs)

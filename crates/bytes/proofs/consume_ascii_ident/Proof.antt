@@ -1,0 +1,28 @@
+use borrow.Author.Needs.{needs}
+use Prim.Native.Nat.{_-_}
+use lib.ListN.{length}
+use Rattle.bytes.specs.Bytes.{isAsciiIdent}
+use Rattle.bytes.proofs.Scans.{Scanning, scanned}
+use Rattle.bytes.proofs.consume_ascii_ident.Statement.{statement}
+use Rattle.bytes.proofs.consume_ascii_ident.Tie as tie
+
+abbrev Inv-loop : tie.InvT-loop
+Inv-loop text i₀ i = Scanning isAsciiIdent text i₀ i
+
+abbrev μ-loop : tie.MeasureT-loop
+μ-loop text i₀ i = length text - i
+
+pub consume-ascii-ident-spec : {M : Type 1} → statement M
+consume-ascii-ident-spec =
+    tie.close
+    (tie.spec
+    Inv-loop
+    μ-loop
+    (λ c. search (scanned, needs))
+    (λ c. search (scanned, needs))
+    (λ c κs. search (scanned, needs))
+    (λ c. search (scanned, needs))
+    (λ c. search (scanned, needs))
+    (λ c. search (scanned, needs))
+    (λ c. search (scanned, needs))
+    (λ c. search (scanned, needs)))

@@ -1,0 +1,28 @@
+use borrow.Author.Needs.{needs}
+use Prim.Native.Nat.{_-_}
+use lib.ListN.{length}
+use Rattle.bytes.specs.Bytes.{isUrlByte}
+use Rattle.bytes.proofs.Scans.{Scanning, scanned}
+use Rattle.bytes.proofs.skip_to_space_or_bracket.Statement.{statement}
+use Rattle.bytes.proofs.skip_to_space_or_bracket.Tie as tie
+
+abbrev Inv-loop : tie.InvT-loop
+Inv-loop text i₀ i = Scanning isUrlByte text i₀ i
+
+abbrev μ-loop : tie.MeasureT-loop
+μ-loop text i₀ i = length text - i
+
+pub skip-to-space-or-bracket-spec : {M : Type 1} → statement M
+skip-to-space-or-bracket-spec =
+    tie.close
+    (tie.spec
+    Inv-loop
+    μ-loop
+    (λ c. search (scanned, needs))
+    (λ c. search (scanned, needs))
+    (λ c κs. search (scanned, needs))
+    (λ c. search (scanned, needs))
+    (λ c. search (scanned, needs))
+    (λ c. search (scanned, needs))
+    (λ c. search (scanned, needs))
+    (λ c. search (scanned, needs)))

@@ -1,0 +1,5 @@
+pub mod Bytes
+pub mod Scan
+pub mod Flow
+pub mod Words
+pub mod Moves

@@ -1,0 +1,32 @@
+-- Wrong answers that the definitions shut out, an example of each.
+use mathlib.Core.Path.{_≡_}
+use Rattle.bytes.specs.Moves.{place}
+use Rattle.bytes.specs.Words.{ascii}
+use Rattle.color.specs.Answer as colors
+use Rattle.color.specs.Color.{rgba}
+use Rattle.color.specs.declared.ColorAnswer.the-variants as C
+use Rattle.funciri.specs.Answers.{funcIriFromStr}
+use Rattle.funciri.specs.Link.{linkAt}
+use Rattle.funciri.specs.declared.LinkAnswer.the-variants as K
+use Rattle.paint.specs.Answers as paints
+use Rattle.paint.specs.declared.Paint.the-variants as W
+use Rattle.paint.specs.declared.PaintAnswer.the-variants as P
+use Rattle.filter_functions.specs.Filters.{nextFilter}
+use Rattle.filter_functions.specs.declared.FilterStep.the-variants as F
+use Rattle.examples.specs.Examples.{refusal}
+
+pub record Shut : Type 0 where
+  -- an alpha is taken times 255, and not times 1
+  pub alpha : colors.fromStr (ascii "rgba(0,0,0,0.5)") ≡ C.Value (rgba 0 0 0 128)
+  -- a hue is turned by 360 degrees, and not by 180
+  pub hue : colors.fromStr (ascii "hsl(120,100%,50%)") ≡ C.Value (rgba 0 255 0 255)
+  -- a quoted link starts after its `#`
+  pub quoted : funcIriFromStr (ascii "url('#a')") ≡ K.Link (linkAt (place 6) 1)
+  -- a quote inside a link is refused
+  pub stray : funcIriFromStr (ascii "url(#a'b)") ≡ K.Refused (refusal 5 0 0 0)
+  -- a paint is read without the white space at its ends
+  pub trimmed : paints.fromStr (ascii " red ") ≡ P.Value (W.Color (rgba 255 0 0 255))
+  -- a number outside the domain is not swallowed by a paint
+  pub painted : paints.fromStr (ascii "rgb(1e23,0,0)") ≡ P.Refused (refusal 10 5 0 0)
+  -- nor by a shadow, in its colour
+  pub shaded : nextFilter (ascii "drop-shadow(rgb(1e23,0,0) 1 2)") 0 ≡ F.Refused (refusal 10 17 0 0) (place 30)

@@ -1,0 +1,5 @@
+pub mod Steps
+pub mod Digits
+pub mod Channels
+pub mod Readings
+pub mod Decoding

@@ -1,0 +1,6 @@
+pub mod Bits
+pub mod Stores
+pub mod Shadows
+pub mod Wholes
+pub mod Rows
+pub mod States

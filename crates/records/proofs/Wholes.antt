@@ -1,0 +1,136 @@
+-- The laws of the writing of an answer's record, which is all of the entries that are lent.
+use Prim.Native.Nat.{ℕ, _≤_}
+use mathlib.Core.List.{List, [], _∷_, append-nil}
+use mathlib.Core.Path.{_≡_, refl, _∙_}
+use native.Mathlib.Omega.{arith}
+use lib.Ieee.{Float, toBits, ofBits}
+use lib.ListN.{length, drop, set}
+use lib.Seq.{paste, drop-length, take-all}
+use Rattle.stream.specs.Refusals.{bareRefusal}
+use Rattle.bytes.specs.declared.Part.{Part}
+use Rattle.stream.specs.declared.Refusal.{Refusal}
+use Rattle.color.specs.declared.Color.{Color}
+use Rattle.color.specs.declared.ColorAnswer.{ColorAnswer}
+use Rattle.color.specs.declared.ColorAnswer.the-variants as C
+use Rattle.length.specs.Paper as lengths
+use Rattle.length.specs.declared.Length.{Length}
+use Rattle.length.specs.declared.LengthAnswer.{LengthAnswer}
+use Rattle.length.specs.declared.LengthAnswer.the-variants as L
+use Rattle.angle.specs.Angles.{toDegrees}
+use Rattle.angle.specs.Paper as angles
+use Rattle.angle.specs.declared.Angle.{Angle}
+use Rattle.angle.specs.declared.AngleAnswer.{AngleAnswer}
+use Rattle.angle.specs.declared.AngleAnswer.the-variants as A
+use Rattle.funciri.specs.declared.LinkAnswer.{LinkAnswer}
+use Rattle.funciri.specs.declared.LinkAnswer.the-variants as K
+use Rattle.paint.specs.Paper as paints
+use Rattle.paint.specs.declared.Inheritance.{Inheritance}
+use Rattle.paint.specs.declared.Inheritance.the-variants as I
+use Rattle.paint.specs.declared.Paint.{Paint}
+use Rattle.paint.specs.declared.Paint.the-variants as P
+use Rattle.paint.specs.declared.PaintAnswer.{PaintAnswer}
+use Rattle.paint.specs.declared.PaintAnswer.the-variants as Q
+use Rattle.paint.specs.declared.PaintFallback.{PaintFallback}
+use Rattle.paint.specs.declared.PaintFallback.the-variants as F
+use Rattle.paint.specs.declared.Whose.{Whose}
+use Rattle.records.specs.Records.{row, foundRow, bitsOf, lengthUnit, angleUnit, colorEntries, colorRecord, lengthRecord, angleRecord, linkRecord, paintRow, paintRecord, whoseNumber, inheritedRecord}
+
+-- 24 entries stored over 24 are all of them
+pub all-of : {o : List ℕ} (xs r : List ℕ) → o ≡ paste xs 0 r 24 → length xs ≡ 24 → length r ≡ 24 → o ≡ r
+all-of xs r w l m =
+    let d : drop 24 xs ≡ [] = rw l at (drop-length xs) in
+    w ∙ rw (d, take-all 24 r (omega arith)) (append-nil r)
+
+-- a row has 24 entries
+pub whole : {o : List ℕ} (xs : List ℕ) (e : Refusal) (state place : ℕ) (v : List ℕ) → o ≡ paste xs 0 (row e state place v) 24 → length xs ≡ 24 → o ≡ row e state place v
+unfolding row
+whole xs e state place v w l = all-of xs (row e state place v) w l refl
+
+-- a refusal: "a result of zeros with an empty link"
+module _ {o : List ℕ} {e : Refusal} where
+  pub color-refused : {a : ColorAnswer} → a ≡ C.Refused e → o ≡ row e 0 0 [] → o ≡ colorRecord a
+  unfolding row colorRecord
+  color-refused h w = rw h w
+
+  pub length-refused : {a : LengthAnswer} → a ≡ L.Refused e → o ≡ row e 0 0 [] → o ≡ lengthRecord a
+  unfolding row lengthRecord lengths.paper bitsOf lengthUnit toBits ofBits
+  length-refused h w = rw h w
+
+  pub angle-refused : {a : AngleAnswer} → a ≡ A.Refused e → o ≡ row e 0 0 [] → o ≡ angleRecord a
+  unfolding row angleRecord angles.paper bitsOf angleUnit toBits ofBits
+  angle-refused h w = rw h w
+
+  pub link-refused : {a : LinkAnswer} → a ≡ K.Refused e → o ≡ row e 0 0 [] → o ≡ linkRecord a
+  unfolding row linkRecord
+  link-refused h w = rw h w
+
+  pub paint-refused : {a : PaintAnswer} → a ≡ Q.Refused e → o ≡ row e 0 0 [] → o ≡ paintRecord a
+  unfolding row paintRecord paints.paper
+  paint-refused h w = rw h w
+
+-- a value, by the numbers that calls answered
+module _ {o : List ℕ} (xs : List ℕ) where
+  pub length-value : {a : LengthAnswer} {l : Length} {m n : ℕ} → a ≡ L.Value l → m ≡ bitsOf (l .number) → n ≡ lengthUnit (l .unit)
+      → o ≡ paste xs 0 (foundRow 0 (m ∷ n ∷ [])) 24 → length xs ≡ 24 → o ≡ lengthRecord a
+  unfolding lengthRecord lengths.paper
+  length-value {m} {n} h f g w l = rw (h, ← f, ← g) (whole xs (bareRefusal 0) 0 0 (m ∷ n ∷ []) w l)
+
+  pub angle-value : {a : AngleAnswer} {t : Angle} {m n d : ℕ} {x : Float} → a ≡ A.Value t → m ≡ bitsOf (t .number) → n ≡ angleUnit (t .unit) → x ≡ toDegrees t → d ≡ bitsOf x
+      → o ≡ paste xs 0 (foundRow 0 (m ∷ n ∷ d ∷ [])) 24 → length xs ≡ 24 → o ≡ angleRecord a
+  unfolding angleRecord angles.paper
+  angle-value {m} {n} {d} h f g i j w l = rw (h, ← f, ← g, ← i, ← j) (whole xs (bareRefusal 0) 0 0 (m ∷ n ∷ d ∷ []) w l)
+
+  pub link-value : {a : LinkAnswer} {p : Part} → a ≡ K.Link p → o ≡ paste xs 0 (foundRow 0 (p .start .0 ∷ p .len ∷ [])) 24 → length xs ≡ 24 → o ≡ linkRecord a
+  unfolding linkRecord
+  link-value {p} h w l = rw h (whole xs (bareRefusal 0) 0 0 (p .start .0 ∷ p .len ∷ []) w l)
+
+pub paint-value : {o : List ℕ} {a : PaintAnswer} {v : Paint} → a ≡ Q.Value v → o ≡ paintRow v → o ≡ paintRecord a
+unfolding paintRow paintRecord paints.paper
+paint-value h w = rw h w
+
+-- o is a row of one number, and p the same with a colour
+module _ {o p : List ℕ} {c : Color} where
+  pub color-value : {a : ColorAnswer} → a ≡ C.Value c → o ≡ foundRow 0 (0 ∷ []) → p ≡ paste o 9 (colorEntries c) 4 → p ≡ colorRecord a
+  unfolding row colorRecord
+  color-value h f g = rw (h, g, f)
+
+  pub paint-color : {v : Paint} → v ≡ P.Color c → o ≡ foundRow 0 (6 ∷ []) → p ≡ paste o 13 (colorEntries c) 4 → p ≡ paintRow v
+  unfolding row paintRow
+  paint-color h f g = rw (h, g, f)
+
+-- a link with no fallback
+pub link-written : {o : List ℕ} (xs : List ℕ) (link : Part) → o ≡ paste xs 0 (foundRow 0 (7 ∷ link .start .0 ∷ link .len ∷ [])) 24 → length xs ≡ 24
+    → o ≡ paintRow (P.FuncIRI link F.Absent)
+unfolding row paintRow
+link-written xs link w l = all-of xs (foundRow 0 (7 ∷ link .start .0 ∷ link .len ∷ [])) w l refl
+
+-- o is such a link's row: its fallback is written
+module _ {o : List ℕ} (link : Part) {f : PaintFallback} (w : o ≡ paintRow (P.FuncIRI link F.Absent)) where
+  pub fallback-absent : f ≡ F.Absent → o ≡ paintRow (P.FuncIRI link f)
+  fallback-absent h = rw h w
+
+  pub fallback-none : f ≡ F.None → set o 12 1 ≡ paintRow (P.FuncIRI link f)
+  unfolding row paintRow
+  fallback-none h = rw (h, w)
+
+  pub fallback-current : f ≡ F.CurrentColor → set o 12 2 ≡ paintRow (P.FuncIRI link f)
+  unfolding row paintRow
+  fallback-current h = rw (h, w)
+
+  pub fallback-color : {p : List ℕ} {c : Color} → f ≡ F.Color c → p ≡ paste o 13 (colorEntries c) 4 → set p 12 3 ≡ paintRow (P.FuncIRI link f)
+  unfolding row paintRow
+  fallback-color h g = rw (h, g, w)
+
+pub paint-link : {o : List ℕ} {v : Paint} {link : Part} {f : PaintFallback} → v ≡ P.FuncIRI link f → o ≡ paintRow (P.FuncIRI link f) → o ≡ paintRow v
+paint-link h w = rw h w
+
+-- the inherit rule: n is whose text it is
+module _ {o : List ℕ} {a : Inheritance} {w : Whose} {n : ℕ} where
+  pub inherited-refused : {e : Refusal} → a ≡ I.Refused w e → o ≡ row e 0 0 [] → n ≡ whoseNumber w → set o 9 n ≡ inheritedRecord a
+  unfolding row inheritedRecord paints.paperInherited
+  inherited-refused h f g = rw (h, f, g)
+
+  pub inherited-chosen : {p : Part} (xs : List ℕ) → a ≡ I.Chosen w p → n ≡ whoseNumber w → o ≡ paste xs 0 (foundRow 0 (n ∷ p .start .0 ∷ p .len ∷ [])) 24 → length xs ≡ 24
+      → o ≡ inheritedRecord a
+  unfolding inheritedRecord paints.paperInherited
+  inherited-chosen {p} xs h g f l = rw (h, ← g) (whole xs (bareRefusal 0) 0 0 (n ∷ p .start .0 ∷ p .len ∷ []) f l)

@@ -1,0 +1,17 @@
+use Rattle.records.proofs.Stores.{record-set}
+use Rattle.records.specs.Records.{row, foundRow}
+use mathlib.Core.List.{[], _∷_}
+use borrow.Author.Needs.{needs}
+use Rattle.records.proofs.written.three.Statement.{statement}
+use Rattle.records.proofs.written.three.Tie as tie
+
+pub three-spec : {M : Type 1} → statement M
+three-spec =
+    tie.close
+    (tie.spec
+    (λ c κs. search needs)
+    (λ c. search needs)
+    (λ c. search needs)
+    (λ c. search needs)
+    (λ c. search needs)
+    (λ c. let a = c .before .before .before .before .before .args in unfold row in record-set (a .out .now) (a .k) (foundRow (a .place .0) (a .a ∷ a .b ∷ [])) (c .before .before .two .ensures) (search needs) (search needs) 11 (search needs) (a .c)))
