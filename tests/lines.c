@@ -1,0 +1,403 @@
+/* Answers cases over the archive, by the line protocol of the runs (docs/RUNS.md): one case a line in, one answer a line out.
+ *
+ *     lines base        the cases of the program `replay`, with the same answers
+ *
+ * A case is a call and its operands, one space between: a text is its bytes, two lower-case hex digits each, `-` for none; a list place is decimal.
+ * A line that is no case gets the answer `?` alone. */
+#include <inttypes.h>
+#include <stdbool.h>
+#include <stdio.h>
+#include <stdlib.h>
+#include "homeludaf.h"
+
+_Static_assert(SIZE_MAX == UINT64_MAX, "the calls take every list place of the protocol");
+
+/* bytes of the line that is answered: a field, or the text that it stands for */
+struct bytes {
+    uint8_t *at;
+    size_t length;
+};
+
+struct operands {
+    uint64_t place;
+    struct bytes texts[2];
+};
+
+struct call {
+    const char *name;
+    const char *takes;                                 /* its operands: p a list place, t a text */
+    void (*answer)(const struct operands *);
+};
+
+#define NAMED(names, n) named(names, sizeof (names) / sizeof (names)[0], n)
+
+/* The name of a number; `!` for a number that the header does not list. */
+static const char *named(const char *const *names, size_t count, uint64_t n)
+{
+    return n < count ? names[n] : "!";
+}
+
+static const char *const states[] = { "value", "end", "end", "refused" };
+static const char *const length_units[] = { "none", "em", "ex", "px", "in", "cm", "mm", "pt", "pc", "%" };
+static const char *const angle_units[] = { "deg", "grad", "rad", "turn" };
+static const char *const paint_kinds[] = { "-", "none", "inherit", "currentColor", "context-fill", "context-stroke", "color", "url" };
+static const char *const fallbacks[] = { "-", "none", "currentColor", "color" };
+static const char *const owners[] = { "!", "own", "parent" };
+static const char *const filter_kinds[] = { "!", "blur", "drop-shadow", "brightness", "contrast", "grayscale", "hue-rotate", "invert", "opacity", "sepia", "saturate", "url" };
+
+/* A record that shows which of its entries a call has not filled. */
+static struct homeludaf_answer unfilled(void)
+{
+    struct homeludaf_answer a;
+    memset(&a, 0xee, sizeof a);
+    return a;
+}
+
+static void put_number(uint64_t n)
+{
+    printf(" %" PRIu64, n);
+}
+
+static void put_word(const char *word)
+{
+    printf(" %s", word);
+}
+
+static void put_bits(uint64_t bits)
+{
+    printf(" %016" PRIx64, bits);
+}
+
+/* The bytes of a part of a text; `!` where the text has no such part. */
+static void put_part_bytes(struct bytes text, struct homeludaf_part part)
+{
+    if (text.length < part.start || text.length - part.start < part.length) {
+        put_word("!");
+        return;
+    }
+    put_word(part.length == 0 ? "-" : "");
+    for (size_t i = 0; i < part.length; i++)
+        printf("%02x", text.at[part.start + i]);
+}
+
+static void put_part(struct homeludaf_part part)
+{
+    put_number(part.start);
+    put_number(part.length);
+}
+
+/* What every answer begins with: the refusal, whose part lies in `text`. */
+static void put_refusal(const struct homeludaf_answer *a, struct bytes text)
+{
+    printf("%" PRIu64, a->code);
+    put_number(a->position);
+    put_number(a->place);
+    put_number(a->found);
+    put_number(a->wanted);
+    put_part_bytes(text, a->part);
+}
+
+static void put_step(const struct homeludaf_answer *a)
+{
+    put_word(NAMED(states, a->state));
+    put_number(a->list_place);
+}
+
+static void put_channels(struct homeludaf_rgba c)
+{
+    put_number(c.red);
+    put_number(c.green);
+    put_number(c.blue);
+    put_number(c.alpha);
+}
+
+static void put_length(struct homeludaf_number length)
+{
+    put_bits(length.bits);
+    put_word(NAMED(length_units, length.unit));
+}
+
+static void put_angle(struct homeludaf_number angle)
+{
+    put_bits(angle.bits);
+    put_word(NAMED(angle_units, angle.unit));
+}
+
+static void answer_color(const struct operands *o)
+{
+    struct homeludaf_answer a = unfilled();
+    homeludaf_color(o->texts[0].at, o->texts[0].length, &a);
+    put_refusal(&a, o->texts[0]);
+    put_channels(a.result.color);
+}
+
+static void answer_length(const struct operands *o)
+{
+    struct homeludaf_answer a = unfilled();
+    homeludaf_length(o->texts[0].at, o->texts[0].length, &a);
+    put_refusal(&a, o->texts[0]);
+    put_length(a.result.length);
+}
+
+static void answer_lengths(const struct operands *o)
+{
+    struct homeludaf_answer a = unfilled();
+    homeludaf_length_next(o->texts[0].at, o->texts[0].length, o->place, &a);
+    put_refusal(&a, o->texts[0]);
+    put_step(&a);
+    put_length(a.result.length);
+}
+
+static void answer_angle(const struct operands *o)
+{
+    struct homeludaf_answer a = unfilled();
+    homeludaf_angle(o->texts[0].at, o->texts[0].length, &a);
+    put_refusal(&a, o->texts[0]);
+    put_angle(a.result.angle.given);
+    put_bits(a.result.angle.degrees_bits);
+}
+
+static void put_link(const struct homeludaf_answer *a, struct bytes text)
+{
+    put_refusal(a, text);
+    put_part(a->result.link);
+    put_part_bytes(text, a->result.link);
+}
+
+static void answer_iri(const struct operands *o)
+{
+    struct homeludaf_answer a = unfilled();
+    homeludaf_iri(o->texts[0].at, o->texts[0].length, &a);
+    put_link(&a, o->texts[0]);
+}
+
+static void answer_func_iri(const struct operands *o)
+{
+    struct homeludaf_answer a = unfilled();
+    homeludaf_func_iri(o->texts[0].at, o->texts[0].length, &a);
+    put_link(&a, o->texts[0]);
+}
+
+static void answer_paint(const struct operands *o)
+{
+    struct homeludaf_answer a = unfilled();
+    homeludaf_paint(o->texts[0].at, o->texts[0].length, &a);
+    put_refusal(&a, o->texts[0]);
+    put_word(NAMED(paint_kinds, a.result.paint.kind));
+    put_part(a.result.paint.link);
+    put_word(NAMED(fallbacks, a.result.paint.fallback));
+    put_channels(a.result.paint.color);
+}
+
+static void answer_inherited(const struct operands *o)
+{
+    const struct bytes own = o->texts[0], parent = o->texts[1];
+    struct homeludaf_answer a = unfilled();
+    homeludaf_inherited(own.at, own.length, parent.at, parent.length, &a);
+    const struct bytes text = a.result.inherited.whose == HOMELUDAF_WHOSE_PARENT ? parent : own;
+    put_refusal(&a, text);
+    put_word(NAMED(owners, a.result.inherited.whose));
+    put_part(a.result.inherited.part);
+    put_part_bytes(text, a.result.inherited.part);
+}
+
+static void put_shadow(const struct homeludaf_answer *a)
+{
+    const struct homeludaf_rgba c = a->result.filter.value.shadow.color;
+    put_length(a->result.filter.value.shadow.dx);
+    put_length(a->result.filter.value.shadow.dy);
+    put_length(a->result.filter.value.shadow.deviation);
+    if (a->result.filter.value.shadow.colored)
+        printf(" %" PRIu64 ",%" PRIu64 ",%" PRIu64 ",%" PRIu64, c.red, c.green, c.blue, c.alpha);
+    else
+        put_word("-");
+}
+
+static void put_filter_value(const struct homeludaf_answer *a)
+{
+    put_word(NAMED(filter_kinds, a->result.filter.kind));
+    switch (a->result.filter.kind) {
+    case HOMELUDAF_FILTER_BLUR:
+        put_length(a->result.filter.value.blur);
+        break;
+    case HOMELUDAF_FILTER_DROP_SHADOW:
+        put_shadow(a);
+        break;
+    case HOMELUDAF_FILTER_HUE_ROTATE:
+        put_angle(a->result.filter.value.hue_rotate);
+        break;
+    case HOMELUDAF_FILTER_URL:
+        put_part(a->result.filter.value.url);
+        break;
+    default:
+        put_bits(a->result.filter.value.number_bits);
+    }
+}
+
+static void answer_filter(const struct operands *o)
+{
+    struct homeludaf_answer a = unfilled();
+    homeludaf_filter_next(o->texts[0].at, o->texts[0].length, o->place, &a);
+    put_refusal(&a, o->texts[0]);
+    put_step(&a);
+    if (a.state == HOMELUDAF_STATE_VALUE)
+        put_filter_value(&a);
+}
+
+static const struct call base_calls[] = {
+    { "color", "t", answer_color },
+    { "length", "t", answer_length },
+    { "lengths", "pt", answer_lengths },
+    { "angle", "t", answer_angle },
+    { "iri", "t", answer_iri },
+    { "funciri", "t", answer_func_iri },
+    { "paint", "t", answer_paint },
+    { "inherit", "tt", answer_inherited },
+    { "filter", "pt", answer_filter },
+};
+
+/* Takes the bytes up to the next space, or all, off the front of what is left of a line. */
+static struct bytes take_field(struct bytes *left)
+{
+    struct bytes field = *left;
+    const uint8_t *space = memchr(left->at, ' ', left->length);
+    if (space)
+        field.length = (size_t)(space - left->at);
+    left->at += field.length;
+    left->length -= field.length;
+    return field;
+}
+
+static bool take_space(struct bytes *left)
+{
+    if (left->length == 0 || left->at[0] != ' ')
+        return false;
+    left->at++;
+    left->length--;
+    return true;
+}
+
+/* A hex digit's value, -1 for another byte. */
+static int digit_value(uint8_t b)
+{
+    if ('0' <= b && b <= '9')
+        return b - '0';
+    if ('a' <= b && b <= 'f')
+        return b - 'a' + 10;
+    return -1;
+}
+
+/* Turns a field into the text that it stands for, where it lies; whether it stands for one. */
+static bool decode(struct bytes *field)
+{
+    if (field->length == 1 && field->at[0] == '-') {
+        field->length = 0;
+        return true;
+    }
+    if (field->length == 0 || field->length % 2 != 0)
+        return false;
+    for (size_t i = 0; i < field->length; i += 2) {
+        int high = digit_value(field->at[i]), low = digit_value(field->at[i + 1]);
+        if (high < 0 || low < 0)
+            return false;
+        field->at[i / 2] = (uint8_t)(high * 16 + low);
+    }
+    field->length /= 2;
+    return true;
+}
+
+/* The number that a field stands for, and whether it stands for one: decimal digits, at most 2^64 - 1. */
+static bool decimal(struct bytes field, uint64_t *n)
+{
+    *n = 0;
+    for (size_t i = 0; i < field.length; i++) {
+        if (field.at[i] < '0' || '9' < field.at[i])
+            return false;
+        uint64_t digit = (uint64_t)(field.at[i] - '0');
+        if ((UINT64_MAX - digit) / 10 < *n)
+            return false;
+        *n = *n * 10 + digit;
+    }
+    return field.length != 0;
+}
+
+/* Takes a call's operands off what is left of its line; whether they are there, and nothing else. */
+static bool take_operands(const char *takes, struct bytes left, struct operands *o)
+{
+    struct bytes *text = o->texts;
+    for (; *takes; takes++) {
+        if (!take_space(&left))
+            return false;
+        struct bytes field = take_field(&left);
+        if (*takes == 'p' ? !decimal(field, &o->place) : !decode(&field))
+            return false;
+        if (*takes == 't')
+            *text++ = field;
+    }
+    return left.length == 0;
+}
+
+static const struct call *call_named(struct bytes name)
+{
+    for (size_t i = 0; i < sizeof base_calls / sizeof base_calls[0]; i++)
+        if (strlen(base_calls[i].name) == name.length && memcmp(base_calls[i].name, name.at, name.length) == 0)
+            return &base_calls[i];
+    return NULL;
+}
+
+static void answer(struct bytes line)
+{
+    struct operands o;
+    const struct call *call = call_named(take_field(&line));
+    if (call && take_operands(call->takes, line, &o))
+        call->answer(&o);
+    else
+        putchar('?');
+    putchar('\n');
+}
+
+struct room {
+    uint8_t *at;
+    size_t length;
+};
+
+static void widen(struct room *room)
+{
+    room->length = room->length == 0 ? 65536 : room->length * 2;
+    room->at = realloc(room->at, room->length);
+    if (!room->at) {
+        fputs("lines: no memory for a line\n", stderr);
+        exit(1);
+    }
+}
+
+/* Reads a line of any length, without its line feed; whether there was one. The last may lack the line feed. */
+static bool read_line(struct room *room, struct bytes *line)
+{
+    size_t length = 0;
+    int c;
+    while ((c = getchar()) != EOF && c != '\n') {
+        if (length == room->length)
+            widen(room);
+        room->at[length++] = (uint8_t)c;
+    }
+    *line = (struct bytes){ room->at, length };
+    return c != EOF || length != 0;
+}
+
+int main(int argc, char **argv)
+{
+    if (argc != 2 || strcmp(argv[1], "base") != 0) {
+        fputs("usage: lines base <CASES >ANSWERS\n", stderr);
+        return 2;
+    }
+    struct room room = { NULL, 0 };
+    struct bytes line;
+    widen(&room);
+    /* A program that waits for each answer gets it. */
+    setvbuf(stdout, NULL, _IOLBF, BUFSIZ);
+    while (read_line(&room, &line))
+        answer(line);
+    free(room.at);
+    return ferror(stdin) || ferror(stdout) ? 1 : 0;
+}
