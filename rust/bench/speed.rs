@@ -25,7 +25,8 @@ enum Kind {
     Length,
     Lengths,
     Angle,
-    Link,
+    Iri,
+    FuncIri,
     Filters,
 }
 
@@ -41,7 +42,7 @@ macro_rules! reader {
             use super::{black_box, Kind, Text, Told};
             use std::str::FromStr;
             use $from::{Angle, Color, FilterValueListParser, FuncIRI};
-            use $from::{Length, LengthListParser, Paint};
+            use $from::{Length, LengthListParser, Paint, IRI};
 
             #[inline(always)]
             fn one<T, E>(told: &mut Told, read: Result<T, E>) {
@@ -67,7 +68,8 @@ macro_rules! reader {
                         Kind::Length => one(&mut told, Length::from_str(text)),
                         Kind::Lengths => all(&mut told, LengthListParser::from(text)),
                         Kind::Angle => one(&mut told, Angle::from_str(text)),
-                        Kind::Link => one(&mut told, FuncIRI::from_str(text)),
+                        Kind::Iri => one(&mut told, IRI::from_str(text)),
+                        Kind::FuncIri => one(&mut told, FuncIRI::from_str(text)),
                         Kind::Filters => all(&mut told, FilterValueListParser::from(text)),
                     }
                 }
@@ -128,35 +130,62 @@ fn measure(class: &Class, rounds: usize) -> Measured {
     told
 }
 
-fn classes(rounds: usize) {
-    println!("| Class | Texts | Bytes | homeludaf, ns a text | svgtypes, ns a text | Median ratio | Ratio of minima |");
+/// Leaves out the texts of which one crate reads or refuses more values than the other: ours refuses
+/// a text over 4,096 bytes and a number outside the domain. How many were left out.
+fn leave_out(class: &mut Class) -> usize {
+    let all = class.texts.len();
+    let alike = |text: &Text| {
+        let text = std::slice::from_ref(text);
+        ours::read(text) == theirs::read(text)
+    };
+    class.texts.retain(alike);
+    all - class.texts.len()
+}
+
+/// A row of the table; the ratio is given back.
+fn row(class: &Class, rounds: usize) -> f64 {
+    let m = measure(class, rounds);
+    let texts = class.texts.len() as f64;
+    println!(
+        "| {} | {} | {} | {:.1} | {:.1} | {:.2} | {:.2} |",
+        class.name,
+        class.texts.len(),
+        class.bytes(),
+        m.ours / texts,
+        m.theirs / texts,
+        m.ratio,
+        m.ours / m.theirs
+    );
+    m.ratio
+}
+
+fn table(what: &str, classes: &[Class], rounds: usize) {
+    println!("| {what} | Texts | Bytes | homeludaf, ns a text | svgtypes, ns a text | Median ratio | Ratio of minima |");
     println!("|---|---|---|---|---|---|---|");
-    let mut logs = 0.0;
-    let all = texts::classes();
-    for class in &all {
-        let m = measure(class, rounds);
-        let texts = class.texts.len() as f64;
-        println!(
-            "| {} | {} | {} | {:.1} | {:.1} | {:.2} | {:.2} |",
-            class.name,
-            class.texts.len(),
-            class.bytes(),
-            m.ours / texts,
-            m.theirs / texts,
-            m.ratio,
-            m.ours / m.theirs
-        );
-        logs += m.ratio.ln();
-    }
+    let logs: f64 = classes.iter().map(|class| row(class, rounds).ln()).sum();
     println!();
     println!(
         "Geometric mean of the median ratios: {:.2}",
-        (logs / all.len() as f64).exp()
+        (logs / classes.len() as f64).exp()
     );
+    println!();
+}
+
+fn wild(rounds: usize) {
+    let mut classes = texts::wild();
+    let mut left_out = Vec::new();
+    for class in &mut classes {
+        left_out.push(format!("{} of the {}", leave_out(class), class.name));
+    }
+    table("Texts from SVG files", &classes, rounds);
+    println!(
+        "Left out, since one crate alone refuses: {}.",
+        left_out.join(", ")
+    );
+    println!();
 }
 
 fn growth(rounds: usize) {
-    println!();
     println!("| List | Bytes | homeludaf, ns a byte | svgtypes, ns a byte |");
     println!("|---|---|---|---|");
     for class in texts::growing() {
@@ -177,6 +206,7 @@ fn main() {
         Ok(said) => said.parse().expect("HOMELUDAF_ROUNDS is a number"),
         Err(_) => ROUNDS,
     };
-    classes(rounds);
+    table("Chosen texts", &texts::chosen(), rounds);
+    wild(rounds);
     growth(rounds);
 }

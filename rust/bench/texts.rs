@@ -18,6 +18,12 @@ fn read_as(kind: Kind, texts: &[&str]) -> Vec<Text> {
     texts.iter().map(|text| (kind, text.to_string())).collect()
 }
 
+/// Each line of a file of bench/wild, to be read as one kind.
+fn wild_class(name: &'static str, kind: Kind, lines: &str) -> Class {
+    let texts = lines.lines().map(|line| (kind, line.to_string())).collect();
+    Class { name, texts }
+}
+
 /// Colours as drawing programs and people write them.
 const COLORS: [&str; 40] = [
     "#000",
@@ -144,8 +150,8 @@ const REFUSED: [(Kind, &str); 32] = [
     (Kind::Length, "10 px"),
     (Kind::Lengths, "10px 20px thirty"),
     (Kind::Angle, "45degrees"),
-    (Kind::Link, "url()"),
-    (Kind::Link, "#a"),
+    (Kind::FuncIri, "url()"),
+    (Kind::FuncIri, "#a"),
     (Kind::Filters, "blur(-5px)"),
     (Kind::Filters, "blur(5%)"),
     (Kind::Filters, "drop-shadow(red)"),
@@ -197,7 +203,8 @@ fn filled(bytes: usize, values: &[&str]) -> String {
     format!("{text:<bytes$}")
 }
 
-pub fn classes() -> Vec<Class> {
+/// Texts that were chosen for this benchmark.
+pub fn chosen() -> Vec<Class> {
     let mut lengths = read_as(Kind::Length, &LENGTHS);
     lengths.extend(read_as(Kind::Lengths, &LENGTH_LISTS));
     let of = |(kind, text): &(Kind, &str)| (*kind, text.to_string());
@@ -226,6 +233,32 @@ pub fn classes() -> Vec<Class> {
             name: "(f) a filter list of 4,096 bytes",
             texts: vec![(Kind::Filters, filled(4096, &VALUES))],
         },
+    ]
+}
+
+/// Texts as found in SVG files, a class for each reader: bench/wild/README.md.
+pub fn wild() -> Vec<Class> {
+    vec![
+        wild_class("colours", Kind::Color, include_str!("wild/color.txt")),
+        wild_class("paints", Kind::Paint, include_str!("wild/paint.txt")),
+        wild_class("lengths", Kind::Length, include_str!("wild/length.txt")),
+        wild_class(
+            "lists of lengths",
+            Kind::Lengths,
+            include_str!("wild/lengths.txt"),
+        ),
+        wild_class("angles", Kind::Angle, include_str!("wild/angle.txt")),
+        wild_class("links", Kind::Iri, include_str!("wild/iri.txt")),
+        wild_class(
+            "function links",
+            Kind::FuncIri,
+            include_str!("wild/funciri.txt"),
+        ),
+        wild_class(
+            "filter lists",
+            Kind::Filters,
+            include_str!("wild/filter.txt"),
+        ),
     ]
 }
 
