@@ -1,0 +1,4 @@
+pub mod Units
+pub mod Told
+pub mod Refused
+pub mod Steps

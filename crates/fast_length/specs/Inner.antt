@@ -1,0 +1,39 @@
+-- A length of a told number, and refusals that are made without a fault. Only contracts inside the crate speak of them.
+use Prim.Native.Nat.{ℕ, _+_}
+use mathlib.Core.Bool.{cond}
+use mathlib.Core.List.{List}
+use lib.Dec.{eqb}
+use lib.ListN.{getD}
+use Rattle.bytes.specs.Bytes.{isSpace}
+use Rattle.utf8.specs.Characters.{calcCharPosAt}
+use Rattle.bytes.specs.Moves.{place}
+use Rattle.stream.specs.Refusals.{bareRefusal}
+use Rattle.bytes.specs.Scan.{scan}
+use Rattle.stream.specs.declared.Refusal.{Refusal}
+use Rattle.numbers.specs.Number.{startsNumber}
+use Rattle.length.specs.Lengths.{unitAt, unitWidth}
+use Rattle.fast_numbers.specs.declared.ToldNumber.{ToldNumber}
+use Rattle.fast_length.specs.Told.{noLength}
+use Rattle.fast_length.specs.declared.ToldLength.{ToldLength}
+
+-- a told number, and the unit directly after it
+unfoldable pub withUnit : List ℕ → ToldNumber → ToldLength
+withUnit s n =
+    let u = unitAt s (n .end .0) in
+    cond (eqb (n .end .0) 0) noLength (record { number = n .value; unit = u; next = place (n .end .0 + unitWidth u) })
+
+-- a refusal that tells its number and the position of a place
+abbrev pub refusalAt : List ℕ → ℕ → ℕ → Refusal
+refusalAt s n i =
+    record {
+      number = n;
+      position = record { 0 = calcCharPosAt s i };
+      place = bareRefusal n .place;
+      found = bareRefusal n .found;
+      wanted = bareRefusal n .wanted;
+      part = bareRefusal n .part;
+    }
+
+-- the refusal where no number is read: 10 where one starts, 9 where none does, "position after spaces"
+unfoldable pub noNumberAt : List ℕ → ℕ → Refusal
+noNumberAt s at = let i = scan isSpace s at in refusalAt s (cond (startsNumber (getD s i 0)) 10 9) i
