@@ -1,0 +1,4 @@
+pub mod Numbers
+pub mod Tellings
+pub mod Openings
+pub mod Told
