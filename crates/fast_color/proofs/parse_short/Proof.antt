@@ -1,0 +1,20 @@
+use Rattle.fast_color.proofs.Hexes.{tries}
+use borrow.Author.Needs.{needs}
+use Rattle.fast_color.proofs.parse_short.Statement.{statement}
+use Rattle.fast_color.proofs.parse_short.Tie as tie
+
+pub parse-short-spec : {M : Type 1} → statement M
+parse-short-spec =
+    tie.close
+    (tie.spec
+    (λ c. search needs)
+    (λ c. search needs)
+    (λ c. search needs)
+    (λ c κs. search needs)
+    (λ c κs. search needs)
+    (λ c κs. search (tries, needs))
+    (λ c κs. search needs)
+    (λ c. search needs)
+    (λ c. search (tries, needs))
+    (λ c κs. search needs)
+    (λ c. search needs))
