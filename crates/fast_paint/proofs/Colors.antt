@@ -1,0 +1,118 @@
+-- A text that is no link: a keyword, a colour, or no paint.
+use Prim.Native.Nat.{ℕ, suc, _+_, _*_, _≤_, _<_}
+use mathlib.Core.Bool.{Bool, true, false, cond}
+use mathlib.Core.List.{List, [], _∷_}
+use mathlib.Core.Path.{_≡_, refl, sym, _∙_}
+use native.Mathlib.Omega.{arith}
+use borrow.Author.Tests.{lt-ltb}
+use lib.Dec.{eqb}
+use lib.ListN.{length}
+use Rattle.bytes.specs.Bytes.{within}
+use Rattle.utf8.specs.Characters.{keeps, rowOf, lenAt, charLen, walk, utf8Of}
+use Rattle.bytes.specs.Moves.{place}
+use Rattle.stream.specs.Faults.{invalidValue}
+use Rattle.stream.specs.Refusals.{refusalOf, isOutsideDomain, admitUtf8, admitText, thenAdmitted}
+use Rattle.bytes.specs.Words.{ascii, same, startsWith, isCurrByteEq}
+use Rattle.stream.specs.declared.Admission.{Admission}
+use Rattle.stream.specs.declared.Admission.the-variants as M
+use Rattle.bytes.proofs.Ranges.{either}
+use Rattle.bytes.proofs.Wording.{same-eq}
+use Rattle.color.specs.Answer as color
+use Rattle.color.specs.Color.{parseColorText}
+use Rattle.color.specs.Moves.{thenColor}
+use Rattle.color.specs.declared.ColorAnswer.the-variants as C
+use Rattle.color.specs.declared.ColorRead.{ColorRead}
+use Rattle.color.specs.declared.ColorRead.the-variants as K
+use Rattle.paint.specs.Moves.{movePaint, thenPaintRead}
+use Rattle.paint.specs.Reading.{parsePlain, parsePaint}
+use Rattle.paint.specs.declared.Paint.the-variants as P
+use Rattle.paint.specs.declared.PaintRead.the-variants as R
+use Rattle.packed.specs.Numbers.{noColor, colors, fallbacks, fallbackNumber, paintNumber, colorAnswerNumber, colorOr}
+use Rattle.packed.proofs.Decoding.{number-back, color-told, color-refused}
+use Rattle.fast_paint.specs.Told.{orTold, keywordOf, readNumber, innerNumber, withColor}
+use Rattle.fast_paint.proofs.Tells.{right}
+
+-- what the number of a colour's text tells
+module _ (t : List ℕ) (v : ℕ) (q : v ≡ colorOr (color.fromStr t)) where
+  pub with-color : (n : ℕ) → v < noColor → n + (3 * fallbacks + v * colors) ≡ withColor n (color.fromStr t)
+  unfolding withColor fallbackNumber
+  with-color n h = rw (← color-told t v q h) (simp (number-back v h))
+
+  pub with-none : (n : ℕ) → noColor ≤ v → 0 ≡ withColor n (color.fromStr t)
+  unfolding withColor
+  with-none n h = rw (color-refused t v q h .1) refl
+
+  color-value : v < noColor → 6 + v * colors ≡ colorAnswerNumber (color.fromStr t)
+  unfolding colorAnswerNumber paintNumber
+  color-value h = rw (← color-told t v q h) (simp (number-back v h))
+
+  color-none : noColor ≤ v → 0 ≡ colorAnswerNumber (color.fromStr t)
+  unfolding colorAnswerNumber
+  color-none h = rw (color-refused t v q h .1) refl
+
+-- a keyword
+keyword-word : (by : ℕ) (t w : List ℕ) → same t w ≡ true → keywordOf w ≡ innerNumber by w → keywordOf t ≡ innerNumber by t
+keyword-word by t w e q = rw (same-eq t w e) q
+
+keyword-is : (by : ℕ) (t : List ℕ) → 0 < keywordOf t → keywordOf t ≡ innerNumber by t
+unfolding keywordOf innerNumber readNumber parsePaint movePaint paintNumber admitText admitUtf8 utf8Of walk charLen lenAt rowOf keeps within same
+keyword-is by t h =
+    either (same t (ascii "none")) (λ e. keyword-word by t (ascii "none") e refl)
+    (λ a. either (same t (ascii "inherit")) (λ e. keyword-word by t (ascii "inherit") e refl)
+    (λ b. either (same t (ascii "currentColor")) (λ e. keyword-word by t (ascii "currentColor") e refl)
+    (λ c. either (same t (ascii "context-fill")) (λ e. keyword-word by t (ascii "context-fill") e refl)
+    (λ d. either (same t (ascii "context-stroke")) (λ e. keyword-word by t (ascii "context-stroke") e refl)
+    (λ e. absurd (omega (arith, simp (a, b, c, d, e) at h)))))))
+
+pub keyword-told : (by : ℕ) (t : List ℕ) {k : ℕ} → k ≡ keywordOf t → 0 < k → orTold k (innerNumber by t) ≡ innerNumber by t
+keyword-told by t {k} q h = right k (innerNumber by t) (q ∙ keyword-is by t (rw q at h))
+
+-- a text that is no keyword and no link is a colour, or none
+curr-starts : (t : List ℕ) → isCurrByteEq t 0 117 ≡ false → startsWith (ascii "url(") t ≡ false
+unfolding isCurrByteEq startsWith
+curr-starts [] e = refl
+curr-starts (x ∷ xs) e =
+    let f : eqb x 117 ≡ false = simp (lt-ltb 0 (suc (length xs)) (omega arith)) at e in
+    simp f
+
+no-word : (a b c d e : Bool) → _≡_ {A = ℕ} (cond a 1 (cond b 2 (cond c 3 (cond d 4 (cond e 5 0))))) 0
+    → (a ≡ false) × (b ≡ false) × (c ≡ false) × (d ≡ false) × (e ≡ false)
+no-word true b c d e q = absurd (omega arith)
+no-word false true c d e q = absurd (omega arith)
+no-word false false true d e q = absurd (omega arith)
+no-word false false false true e q = absurd (omega arith)
+no-word false false false false true q = absurd (omega arith)
+no-word false false false false false q = (refl, refl, refl, refl, refl)
+
+plain-paint : (t : List ℕ) → keywordOf t ≡ 0 → isCurrByteEq t 0 117 ≡ false → parsePaint t ≡ parsePlain t
+unfolding keywordOf parsePaint
+plain-paint t q e =
+    let w = no-word (same t (ascii "none")) (same t (ascii "inherit")) (same t (ascii "currentColor")) (same t (ascii "context-fill")) (same t (ascii "context-stroke")) q in
+    simp (w .0, w .1, w .2, w .3, w .4, curr-starts t e)
+
+plain-inner : (by : ℕ) (t : List ℕ) → parsePaint t ≡ parsePlain t → colorAnswerNumber (color.fromStr t) ≡ innerNumber by t
+unfolding innerNumber readNumber parsePlain movePaint colorAnswerNumber color.fromStr
+plain-inner by t w = rw w (go (admitText t) (parseColorText t))
+  where
+    go : (x : Admission) (r : ColorRead)
+        → colorAnswerNumber (thenAdmitted C.Refused x (thenColor (λ e. C.Refused (refusalOf t e)) r (λ c p. C.Value c)))
+        ≡ thenAdmitted (λ e. 0) x
+        (thenPaintRead (λ e b. 0)
+        (thenColor (λ e. cond (isOutsideDomain e) (R.Refused e (place 0)) (R.Refused (invalidValue (e .at .0)) (place 0))) r (λ c p. R.Value (P.Color c)))
+        (λ v. paintNumber (movePaint by v)))
+    go M.Admitted (K.Value c p) = refl
+    go M.Admitted (K.Refused e) = either (isOutsideDomain e) (λ f. simp f) (λ f. simp f)
+    go (M.Refused e) r = refl
+
+-- b and k are what the tests of the first byte and of the keywords answered, v is the colour's number
+module _ (by : ℕ) (t : List ℕ) (v : ℕ) {b : Bool} {k : ℕ} (u : b ≡ isCurrByteEq t 0 117) (z : b ≡ false) (w : k ≡ keywordOf t) (s : k ≤ 0) (q : v ≡ colorOr (color.fromStr t)) where
+  inner-is : colorAnswerNumber (color.fromStr t) ≡ innerNumber by t
+  inner-is = plain-inner by t (plain-paint t (omega arith) (sym u ∙ z))
+
+  pub inner-color : v < noColor → orTold (6 + v * colors) (innerNumber by t) ≡ innerNumber by t
+  inner-color h = right (6 + v * colors) (innerNumber by t) (color-value t v q h ∙ inner-is)
+
+  pub inner-none : noColor ≤ v → orTold 0 (innerNumber by t) ≡ innerNumber by t
+  inner-none h = right 0 (innerNumber by t) (color-none t v q h ∙ inner-is)
+
+pub ruleset colored = (with-color, with-none, keyword-told, inner-color, inner-none)

@@ -1,0 +1,25 @@
+use Rattle.bytes.proofs.Scans.{scan-inside}
+use Rattle.fast_paint.proofs.Answers.{long-told, part-told}
+use borrow.Author.Needs.{needs}
+use Rattle.fast_paint.proofs.told.Statement.{statement}
+use Rattle.fast_paint.proofs.told.Tie as tie
+
+pub told-spec : {M : Type 1} → statement M
+told-spec =
+    tie.close
+    (tie.spec
+    (λ c. search (long-told, needs))
+    (λ c κs. search needs)
+    (λ c κs. search (scan-inside, needs))
+    (λ c. search needs)
+    (λ c κs. search needs)
+    (λ c. search needs)
+    (λ c. search needs)
+    (λ c κs. search needs)
+    (λ c. search needs)
+    (λ c. search needs)
+    (λ c. search needs)
+    (λ c κs. search needs)
+    (λ c. search (part-told, needs))
+    (λ c. search needs)
+    (λ c. search needs))

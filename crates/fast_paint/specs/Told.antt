@@ -1,0 +1,57 @@
+-- What the numbers of the private readers stand for; only their contracts speak of it.
+use Prim.Native.Nat.{ℕ, _+_}
+use mathlib.Core.Bool.{cond}
+use mathlib.Core.List.{List}
+use lib.Dec.{leb, ltb}
+use lib.ListN.{length, drop}
+use Rattle.bytes.specs.Bytes.{isSpace}
+use Rattle.bytes.specs.Flow.{bind}
+use Rattle.stream.specs.Refusals.{admitText, thenAdmitted}
+use Rattle.bytes.specs.Scan.{scan}
+use Rattle.bytes.specs.Words.{ascii, same}
+use Rattle.color.specs.Answer as color
+use Rattle.color.specs.declared.ColorAnswer.{ColorAnswer}
+use Rattle.color.specs.declared.ColorAnswer.the-variants as C
+use Rattle.paint.specs.Moves.{movePaint, thenPaintRead}
+use Rattle.paint.specs.Reading.{parsePaint}
+use Rattle.paint.specs.declared.PaintFallback.the-variants as F
+use Rattle.packed.specs.Numbers.{noPaint, fallbackNumber, paintNumber}
+
+-- the number told or, where nothing is told, x
+abbrev pub orTold : ℕ → ℕ → ℕ
+orTold r x = cond (ltb r noPaint) r x
+
+-- a keyword's kind, 0 for another text
+unfoldable pub keywordOf : List ℕ → ℕ
+keywordOf t =
+    cond (same t (ascii "none")) 1
+    (cond (same t (ascii "inherit")) 2
+    (cond (same t (ascii "currentColor")) 3
+    (cond (same t (ascii "context-fill")) 4
+    (cond (same t (ascii "context-stroke")) 5 0))))
+
+-- what a trimmed text reads as, with `by` bytes trimmed before it; 0 for a refusal
+unfoldable pub readNumber : ℕ → List ℕ → ℕ
+readNumber by t = thenPaintRead (λ e b. 0) (parsePaint t) (λ v. paintNumber (movePaint by v))
+
+-- the same, 0 for a text that may not be read
+unfoldable pub innerNumber : ℕ → List ℕ → ℕ
+innerNumber by t = thenAdmitted (λ e. 0) (admitText t) (readNumber by t)
+
+-- a link whose number is n, with the colour answered as its fallback; 0 for a refusal
+unfoldable pub withColor : ℕ → ColorAnswer → ℕ
+withColor n (C.Value c) = n + fallbackNumber (F.Color c)
+withColor n (C.Refused e) = 0
+
+-- with the fallback that a text reads as
+unfoldable pub withFallback : ℕ → List ℕ → ℕ
+withFallback n f =
+    cond (same f (ascii "none")) (n + fallbackNumber F.None)
+    (cond (same f (ascii "currentColor")) (n + fallbackNumber F.CurrentColor)
+    (withColor n (color.fromStr f)))
+
+-- with what follows it from i on: spaces, and a fallback unless the text ends there
+unfoldable pub withRest : ℕ → List ℕ → ℕ → ℕ
+withRest n t i =
+    bind (scan isSpace t i) (λ k.
+    cond (leb (length t) k) n (withFallback n (drop k t)))

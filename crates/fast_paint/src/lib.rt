@@ -1,0 +1,219 @@
+// A paint as a whole text, sooner: what most texts are is told as one number, and the plain reader reads the rest.
+ghost use mathlib.Core.Bool.{true};
+ghost use mathlib.Core.Path.{_≡_};
+ghost use Prim.Native.Nat.{_+_, _*_, _≤_, _<_};
+ghost use lib.ListN.{length, getD};
+ghost use Rattle.bytes.specs.Bytes.{within, isSpace};
+ghost use Rattle.bytes.specs.Scan.{scan};
+ghost use Rattle.bytes.specs.Words.{ascii, startsWith};
+ghost use Rattle.funciri.specs.Link.{isQuote};
+ghost use Rattle.packed.specs.Numbers.{places, starts, lens, fallbacks, paintAnswerNumber};
+ghost use Rattle.paint.specs.Answers.{fromStr};
+ghost use Rattle.fast_paint.specs.Told.{innerNumber, keywordOf, orTold, withFallback, withRest};
+use bytes::Place;
+use packed::COLOR;
+use packed::FALLBACK;
+use packed::LEN;
+use packed::NO_COLOR;
+use packed::NO_PAINT;
+use packed::START;
+use paint::PaintAnswer;
+
+mod numbered;
+
+pub use numbered::number;
+
+// A keyword's kind, 0 for another text.
+fn keyword(text: &[u8]) -> u64
+    ensures { λ r. ⌜ r ≡ keywordOf (now (text .entry)) ⌝ }
+{
+    if bytes::equals(text, b"none") {
+        return 1;
+    }
+    if bytes::equals(text, b"inherit") {
+        return 2;
+    }
+    if bytes::equals(text, b"currentColor") {
+        return 3;
+    }
+    if bytes::equals(text, b"context-fill") {
+        return 4;
+    }
+    if bytes::equals(text, b"context-stroke") {
+        return 5;
+    }
+    0
+}
+
+// A link's number, with no fallback.
+fn link_number(start: usize, len: usize) -> u64
+    requires { ⌜ start < places ⌝ }
+    requires { ⌜ len < places ⌝ }
+    ensures { λ r. ⌜ r ≡ 7 + (start * starts + len * lens) ⌝ }
+    ensures { λ r. ⌜ r < fallbacks ⌝ }
+{
+    7 + ((start as u64) * START + (len as u64) * LEN)
+}
+
+// The fallback after a link whose number is `link`.
+fn with_fallback(text: &[u8], link: u64) -> u64
+    requires { ⌜ link < fallbacks ⌝ }
+    ensures { λ r. ⌜ r ≡ withFallback link (now (text .entry)) ⌝ }
+{
+    if bytes::equals(text, b"none") {
+        return link + FALLBACK;
+    }
+    if bytes::equals(text, b"currentColor") {
+        return link + 2 * FALLBACK;
+    }
+    let v = fast_color::value(text);
+    if v < NO_COLOR {
+        return link + (3 * FALLBACK + v * COLOR);
+    }
+    0
+}
+
+// What follows a link whose number is `link`: nothing, or a fallback.
+fn with_rest(text: &[u8], at: Place, link: u64) -> u64
+    requires { ⌜ link < fallbacks ⌝ }
+    ensures { λ r. ⌜ r ≡ withRest link (now (text .entry)) (at .0) ⌝ }
+{
+    let base = bytes::skip_spaces(text, at);
+    let i = base.0;
+    if text.len() <= i {
+        return link;
+    }
+    with_fallback(&text[i..], link)
+}
+
+// A link in quotes: `url(` and the opening quote, `quote`, were seen.
+fn told_quoted(text: &[u8], by: usize, quote: u8) -> u64
+    requires { ⌜ length (now text) ≤ 4096 ⌝ }
+    requires { ⌜ by ≤ 4096 ⌝ }
+    requires { ⌜ startsWith (ascii "url(") (now text) ≡ true ⌝ }
+    requires { ⌜ quote ≡ getD (now text) 4 0 ⌝ }
+    requires { ⌜ isQuote quote ≡ true ⌝ }
+    ensures { λ r. ⌜ orTold r (innerNumber by (now (text .entry))) ≡ innerNumber by (now (text .entry)) ⌝ }
+{
+    if bytes::is_curr_byte_eq(text, Place(5), b'#') {
+        let end = bytes::skip_bare(text, Place(6));
+        let q = end.0;
+        if (6 < q)
+            & (bytes::is_curr_byte_eq(text, end, quote)
+                & bytes::is_curr_byte_eq(text, Place(q + 1), b')'))
+        {
+            return with_rest(text, Place(q + 2), link_number(by + 6, q - 6));
+        }
+    }
+    NO_PAINT
+}
+
+// A text that begins with a link; `by` bytes were trimmed before it.
+fn told_linked(text: &[u8], by: usize) -> u64
+    requires { ⌜ length (now text) ≤ 4096 ⌝ }
+    requires { ⌜ by ≤ 4096 ⌝ }
+    ensures { λ r. ⌜ orTold r (innerNumber by (now (text .entry))) ≡ innerNumber by (now (text .entry)) ⌝ }
+{
+    if bytes::begins(text, b"url(") {
+        let b = bytes::byte_at(text, 4);
+        if b == b'#' {
+            let end = bytes::skip_bare(text, Place(5));
+            let q = end.0;
+            if (5 < q) & bytes::is_curr_byte_eq(text, end, b')') {
+                return with_rest(text, Place(q + 1), link_number(by + 5, q - 5));
+            }
+            return NO_PAINT;
+        }
+        if (b == b'\'') | (b == b'"') {
+            return told_quoted(text, by, b);
+        }
+    }
+    NO_PAINT
+}
+
+// A text without white space at its ends.
+fn told_inner(text: &[u8], by: usize) -> u64
+    requires { ⌜ length (now text) ≤ 4096 ⌝ }
+    requires { ⌜ by ≤ 4096 ⌝ }
+    ensures { λ r. ⌜ orTold r (innerNumber by (now (text .entry))) ≡ innerNumber by (now (text .entry)) ⌝ }
+{
+    if bytes::is_curr_byte_eq(text, Place(0), b'u') {
+        return told_linked(text, by);
+    }
+    let k = keyword(text);
+    if 0 < k {
+        return k;
+    }
+    let v = fast_color::value(text);
+    if v < NO_COLOR {
+        return 6 + v * COLOR;
+    }
+    0
+}
+
+// Where the spaces at a text's end begin, from `from` on.
+fn space_end(text: &[u8], from: usize) -> usize
+    requires { ⌜ from ≤ length (now text) ⌝ }
+    ensures { λ r. ⌜ r ≤ length (now (text .entry)) ⌝ }
+    ensures { λ r. ⌜ scan isSpace (now (text .entry)) r ≡ length (now (text .entry)) ⌝ }
+{
+    let mut e = text.len();
+    while from < e {
+        if bytes::is_space(text[e - 1]) {
+            e -= 1;
+        } else {
+            return e;
+        }
+    }
+    e
+}
+
+// A byte that is no part of white space: a visible ASCII character.
+fn is_inked(b: u8) -> bool
+    ensures { λ r. ⌜ r ≡ within 33 126 b ⌝ }
+{
+    (b'!' <= b) & (b <= b'~')
+}
+
+// NO_PAINT: nothing is told. Spaces alone are trimmed: that other white space stands at neither end is told by the first and the last byte left.
+fn told(text: &[u8]) -> u64
+    ensures { λ r. ⌜ orTold r (paintAnswerNumber (fromStr (now (text .entry)))) ≡ paintAnswerNumber (fromStr (now (text .entry))) ⌝ }
+{
+    if 4096 < text.len() {
+        return 0;
+    }
+    let start = bytes::skip_spaces(text, Place(0));
+    let a = start.0;
+    let e = space_end(text, a);
+    if a < e {
+        if is_inked(text[a]) & is_inked(text[e - 1]) {
+            return told_inner(&text[a..e], a);
+        }
+    }
+    NO_PAINT
+}
+
+// As one number, 0 for a refused text.
+pub fn value(text: &[u8]) -> u64
+    ensures { λ r. ⌜ r ≡ paintAnswerNumber (fromStr (now (text .entry))) ⌝ }
+{
+    let v = told(&text[0..]);
+    if v < NO_PAINT {
+        return v;
+    }
+    match paint::from_str(text) {
+        PaintAnswer::Value(paint) => packed::paint_number(paint),
+        PaintAnswer::Refused(_) => 0,
+    }
+}
+
+// A refused text is read by the plain reader, which says why.
+pub fn from_str(text: &[u8]) -> PaintAnswer
+    ensures { λ r. ⌜ r ≡ fromStr (now (text .entry)) ⌝ }
+{
+    let v = told(&text[0..]);
+    if (0 < v) & (v < NO_PAINT) {
+        return PaintAnswer::Value(packed::number_paint(v));
+    }
+    paint::from_str(text)
+}

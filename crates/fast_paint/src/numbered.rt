@@ -1,0 +1,25 @@
+// A paint's answer as one number, which comes back in a register: the record is filled for a refusal alone.
+ghost use mathlib.Core.Path.{_≡_};
+ghost use Rattle.paint.specs.Answers.{fromStr};
+ghost use Rattle.packed.specs.Numbers.{paintAnswerNumber};
+ghost use Rattle.records.specs.Records.{paintRecord, recordFor};
+use crate::told;
+use packed::NO_PAINT;
+use paint::PaintAnswer;
+
+pub fn number(text: &[u8], answer: &mut [u64; 24]) -> u64
+    ensures { λ r. ⌜ r ≡ paintAnswerNumber (fromStr (now (text .entry))) ⌝ }
+    ensures { λ r. ⌜ now (answer .exit) ≡ recordFor r (paintRecord (fromStr (now (text .entry)))) (now (answer .entry)) ⌝ }
+{
+    let v = told(&text[0..]);
+    if (0 < v) & (v < NO_PAINT) {
+        return v;
+    }
+    match paint::from_str(text) {
+        PaintAnswer::Value(p) => packed::paint_number(p),
+        PaintAnswer::Refused(e) => {
+            records::refused(answer, e);
+            0
+        }
+    }
+}
