@@ -1,0 +1,51 @@
+use Rattle.fast_filter_functions.proofs.Names.{tries, try-kept}
+use borrow.Author.Needs.{needs}
+use Rattle.fast_filter_functions.proofs.step_told.Statement.{statement}
+use Rattle.fast_filter_functions.proofs.step_told.Tie as tie
+
+pub step-told-spec : {M : Type 1} → statement M
+step-told-spec =
+    tie.close
+    (tie.spec
+    (λ c κs. search needs)
+    (λ c κs. search needs)
+    (λ c κs. search needs)
+    (λ c κs. search needs)
+    (λ c κs. search needs)
+    (λ c. search needs)
+    (λ c. search (tries, needs))
+    (λ c. search needs)
+    (λ c κs. rw (try-kept _ _ (c .before .before .if1 .left) (c .before .before .before .before .before .blur-told .ensures)) (search needs))
+    (λ c. search needs)
+    (λ c κs. search needs)
+    (λ c. search needs)
+    (λ c κs. search needs)
+    (λ c. search needs)
+    (λ c κs. search needs)
+    (λ c. search needs)
+    (λ c κs. search needs)
+    (λ c. search needs)
+    (λ c κs. search needs)
+    (λ c. search needs)
+    (λ c. search (tries, needs))
+    (λ c. search needs)
+    (λ c κs. rw (try-kept _ _ (c .before .before .if2 .left) (c .before .before .before .before .before .plain-told6 .ensures)) (search needs))
+    (λ c. search needs)
+    (λ c. search needs)
+    (λ c. search needs)
+    (λ c. search needs)
+    (λ c. search needs)
+    (λ c. search needs)
+    (λ c. search needs)
+    (λ c. search (tries, needs))
+    (λ c. search needs)
+    (λ c. search needs)
+    (λ c. search needs)
+    (λ c. search needs)
+    (λ c. search needs)
+    (λ c. search needs)
+    (λ c. search needs)
+    (λ c. search needs)
+    (λ c. search needs)
+    (λ c. search (tries, needs))
+    (λ c. search needs))
