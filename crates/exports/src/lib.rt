@@ -10,9 +10,6 @@ ghost use Rattle.funciri.specs.Answers.{iriFromStr, funcIriFromStr};
 ghost use Rattle.length.specs.Lengths as lengths;
 ghost use Rattle.paint.specs.Answers as paints;
 use bytes::Place;
-use color::ColorAnswer;
-use paint::Paint;
-use paint::PaintAnswer;
 
 mod many;
 
@@ -20,7 +17,7 @@ mod many;
 pub extern "C" fn homeludaf_color(text: &[u8], answer: &mut [u64; 24])
     ensures { λ _. ⌜ now (answer .exit) ≡ colorRecord (colors.fromStr (now (text .entry))) ⌝ }
 {
-    records::write_color(answer, color::from_str(text));
+    records::write_color(answer, fast_color::from_str(text));
 }
 
 // A colour as one number. It comes back in a register, and the record is filled for a refusal alone.
@@ -29,28 +26,23 @@ pub extern "C" fn homeludaf_color_packed(text: &[u8], answer: &mut [u64; 24]) ->
     ensures { λ r. ⌜ r ≡ colorAnswerNumber (colors.fromStr (now (text .entry))) ⌝ }
     ensures { λ r. ⌜ now (answer .exit) ≡ recordFor r (colorRecord (colors.fromStr (now (text .entry)))) (now (answer .entry)) ⌝ }
 {
-    match color::from_str(text) {
-        ColorAnswer::Value(c) => packed::paint_number(Paint::Color(c)),
-        ColorAnswer::Refused(e) => {
-            records::refused(answer, e);
-            0
-        }
-    }
+    fast_color::number(text, answer)
 }
 
 #[no_mangle]
 pub extern "C" fn homeludaf_length(text: &[u8], answer: &mut [u64; 24])
     ensures { λ _. ⌜ now (answer .exit) ≡ lengthRecord (lengths.fromStr (now (text .entry))) ⌝ }
 {
-    records::write_length(answer, length::from_str(text));
+    records::write_length(answer, fast_length::from_str(text));
 }
 
-// One step of a list of lengths, from a list place.
+// One step of a list of lengths, from a list place: the walk with room for one record, so that the reader has one caller, and is compiled into it.
 #[no_mangle]
 pub extern "C" fn homeludaf_length_next(text: &[u8], place: usize, answer: &mut [u64; 24])
     ensures { λ _. ⌜ now (answer .exit) ≡ lengthStepRecord (lengths.nextLength (now (text .entry)) place) ⌝ }
 {
-    records::write_length_step(answer, 0, length::next(text, Place(place)));
+    let mut t = [0; 2];
+    many::length_steps(text, Place(place), answer, &mut t);
 }
 
 // An angle, with its degrees.
@@ -58,28 +50,28 @@ pub extern "C" fn homeludaf_length_next(text: &[u8], place: usize, answer: &mut 
 pub extern "C" fn homeludaf_angle(text: &[u8], answer: &mut [u64; 24])
     ensures { λ _. ⌜ now (answer .exit) ≡ angleRecord (angles.fromStr (now (text .entry))) ⌝ }
 {
-    records::write_angle(answer, angle::from_str(text));
+    records::write_angle(answer, fast_angle::from_str(text));
 }
 
 #[no_mangle]
 pub extern "C" fn homeludaf_iri(text: &[u8], answer: &mut [u64; 24])
     ensures { λ _. ⌜ now (answer .exit) ≡ linkRecord (iriFromStr (now (text .entry))) ⌝ }
 {
-    records::write_link(answer, funciri::iri_from_str(text));
+    records::write_link(answer, fast_funciri::iri_from_str(text));
 }
 
 #[no_mangle]
 pub extern "C" fn homeludaf_func_iri(text: &[u8], answer: &mut [u64; 24])
     ensures { λ _. ⌜ now (answer .exit) ≡ linkRecord (funcIriFromStr (now (text .entry))) ⌝ }
 {
-    records::write_link(answer, funciri::func_iri_from_str(text));
+    records::write_link(answer, fast_funciri::func_iri_from_str(text));
 }
 
 #[no_mangle]
 pub extern "C" fn homeludaf_paint(text: &[u8], answer: &mut [u64; 24])
     ensures { λ _. ⌜ now (answer .exit) ≡ paintRecord (paints.fromStr (now (text .entry))) ⌝ }
 {
-    records::write_paint(answer, paint::from_str(text));
+    records::write_paint(answer, fast_paint::from_str(text));
 }
 
 // A paint as one number, likewise.
@@ -88,13 +80,7 @@ pub extern "C" fn homeludaf_paint_packed(text: &[u8], answer: &mut [u64; 24]) ->
     ensures { λ r. ⌜ r ≡ paintAnswerNumber (paints.fromStr (now (text .entry))) ⌝ }
     ensures { λ r. ⌜ now (answer .exit) ≡ recordFor r (paintRecord (paints.fromStr (now (text .entry)))) (now (answer .entry)) ⌝ }
 {
-    match paint::from_str(text) {
-        PaintAnswer::Value(v) => packed::paint_number(v),
-        PaintAnswer::Refused(e) => {
-            records::refused(answer, e);
-            0
-        }
-    }
+    fast_paint::number(text, answer)
 }
 
 // The inherit rule, over an element's own text and its parent's.
@@ -105,12 +91,13 @@ pub extern "C" fn homeludaf_inherited(own: &[u8], parent: &[u8], answer: &mut [u
     records::write_inherited(answer, paint::inherited(own, parent));
 }
 
-// One step of a list of filter values, from a list place.
+// One step of a list of filter values, from a list place: likewise.
 #[no_mangle]
 pub extern "C" fn homeludaf_filter_next(text: &[u8], place: usize, answer: &mut [u64; 24])
     ensures { λ _. ⌜ now (answer .exit) ≡ filterRecord (nextFilter (now (text .entry)) place) ⌝ }
 {
-    records::write_filter(answer, 0, filter_functions::next(text, Place(place)));
+    let mut t = [0; 2];
+    many::filter_steps(text, Place(place), answer, &mut t);
 }
 
 // The steps of a list of filter values from a list place on: whole records, one after the other, up to and with the first that is no value, as many as fit.

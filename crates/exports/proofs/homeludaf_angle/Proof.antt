@@ -8,4 +8,4 @@ homeludaf-angle-spec =
     (tie.spec
     (λ c κs. search needs)
     (λ c κs. search needs)
-    (λ c. rw (← c .before .from-str .ensures .0) (c .write-angle .ensures)))
+    (λ c. rw (← c .before .from-str .ensures) (c .write-angle .ensures)))

@@ -8,4 +8,4 @@ homeludaf-color-spec =
     (tie.spec
     (λ c κs. search needs)
     (λ c κs. search needs)
-    (λ c. rw (← c .before .from-str .ensures .0) (c .write-color .ensures)))
+    (λ c. rw (← c .before .from-str .ensures) (c .write-color .ensures)))

@@ -8,4 +8,4 @@ homeludaf-iri-spec =
     (tie.spec
     (λ c κs. search needs)
     (λ c κs. search needs)
-    (λ c. rw (← c .before .iri-from-str .ensures .0) (c .write-link .ensures)))
+    (λ c. rw (← c .before .iri-from-str .ensures) (c .write-link .ensures)))

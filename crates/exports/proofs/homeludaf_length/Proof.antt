@@ -8,4 +8,4 @@ homeludaf-length-spec =
     (tie.spec
     (λ c κs. search needs)
     (λ c κs. search needs)
-    (λ c. rw (← c .before .from-str .ensures .0) (c .write-length .ensures)))
+    (λ c. rw (← c .before .from-str .ensures) (c .write-length .ensures)))

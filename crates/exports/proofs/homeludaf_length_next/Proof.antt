@@ -1,5 +1,5 @@
-use Rattle.exports.proofs.Single.{single}
 use borrow.Author.Needs.{needs}
+use Rattle.exports.proofs.Single.{single}
 use Rattle.exports.proofs.homeludaf_length_next.Statement.{statement}
 use Rattle.exports.proofs.homeludaf_length_next.Tie as tie
 
@@ -7,6 +7,5 @@ pub homeludaf-length-next-spec : {M : Type 1} → statement M
 homeludaf-length-next-spec =
     tie.close
     (tie.spec
-    (λ c κs. search needs)
     (λ c κs. search needs)
     (λ c. search (single, needs)))

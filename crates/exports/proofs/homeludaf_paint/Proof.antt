@@ -8,4 +8,4 @@ homeludaf-paint-spec =
     (tie.spec
     (λ c κs. search needs)
     (λ c κs. search needs)
-    (λ c. rw (← c .before .from-str .ensures .0) (c .write-paint .ensures)))
+    (λ c. rw (← c .before .from-str .ensures) (c .write-paint .ensures)))

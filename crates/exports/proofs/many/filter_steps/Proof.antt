@@ -1,18 +1,17 @@
 use Prim.Native.Nat.{_-_, _*_}
-use Rattle.filter_functions.specs.Filters.{nextFilter}
-use Rattle.records.specs.Records.{filterRecord}
 use Rattle.records.proofs.Stores.{filter-entries}
+use Rattle.exports.proofs.Going.{Going, going-start, going-full, going-same, going-on, going-stop}
 use Rattle.exports.specs.Many.{filterAt}
-use Rattle.exports.proofs.Going.{Going, going-start, going-full, going-same, going-on, going-stop, written-at}
+use Rattle.filter_functions.specs.Filters.{nextFilter}
 use borrow.Author.Needs.{needs}
 use Rattle.exports.proofs.many.filter_steps.Statement.{statement}
 use Rattle.exports.proofs.many.filter_steps.Tie as tie
 
 abbrev Inv-loop : tie.InvT-loop
-Inv-loop text answers₀ told₀ room n₀ at₀ answers told n at = Going (filterAt text) at₀ answers₀ n at answers
+Inv-loop text answers₀ told₀ admission room n₀ at₀ answers told n at = Going (filterAt text) at₀ answers₀ n at answers
 
 abbrev μ-loop : tie.MeasureT-loop
-μ-loop text answers₀ told₀ room n₀ at₀ answers told n at = room - n
+μ-loop text answers₀ told₀ admission room n₀ at₀ answers told n at = room - n
 
 pub filter-steps-spec : {M : Type 1} → statement M
 filter-steps-spec =
@@ -20,10 +19,10 @@ filter-steps-spec =
     (tie.spec
     Inv-loop
     μ-loop
+    (λ c κs. search needs)
     (λ c. search (going-start, needs))
     (λ c. search needs)
     (λ c κs. search needs)
-    (λ c κs. search needs)
     (λ c. search needs)
     (λ c. search needs)
     (λ c. search needs)
@@ -31,9 +30,9 @@ filter-steps-spec =
     (λ c. search needs)
     (λ c. search needs)
     (λ c. search needs)
-    (λ c. let s = c .before .before .before .before .before .before .before .before .before .before .before .before .before .args .text .now in let l = c .before .before .before .before .before .before .before .before .before .before .loop in going-same (l .inv) (written-at filterRecord (l .answers) (l .n * 24) (c .before .before .before .before .before .before .write-filter .ensures) (c .before .before .before .before .before .before .before .next .ensures .0)) (search needs) (filter-entries (nextFilter s (l .at))))
-    (λ c. let s = c .before .before .before .before .before .before .before .before .before .before .before .before .before .args .text .now in let l = c .before .before .before .before .before .before .before .before .before .before .loop in going-stop (l .inv) (written-at filterRecord (l .answers) (l .n * 24) (c .before .before .before .before .before .before .write-filter .ensures) (c .before .before .before .before .before .before .before .next .ensures .0)) (search needs) (filter-entries (nextFilter s (l .at))) (search needs))
+    (λ c. let s = c .before .before .before .before .before .before .before .before .before .before .before .before .before .args .text .now in let l = c .before .before .before .before .before .before .before .before .before .loop in going-same (l .inv) (c .before .before .before .before .before .before .write-step .ensures) (search needs) (filter-entries (nextFilter s (l .at))))
+    (λ c. let s = c .before .before .before .before .before .before .before .before .before .before .before .before .before .args .text .now in let l = c .before .before .before .before .before .before .before .before .before .loop in going-stop (l .inv) (c .before .before .before .before .before .before .write-step .ensures) (search needs) (filter-entries (nextFilter s (l .at))) (search needs))
     (λ c. search needs)
-    (λ c. let s = c .before .before .before .before .before .before .before .before .before .before .before .before .args .text .now in let l = c .before .before .before .before .before .before .before .before .before .loop in going-on (l .inv) (written-at filterRecord (l .answers) (l .n * 24) (c .before .before .before .before .before .write-filter .ensures) (c .before .before .before .before .before .before .next .ensures .0)) (search needs) (filter-entries (nextFilter s (l .at))) (search needs))
+    (λ c. let s = c .before .before .before .before .before .before .before .before .before .before .before .before .args .text .now in let l = c .before .before .before .before .before .before .before .before .loop in going-on (l .inv) (c .before .before .before .before .before .write-step .ensures) (search needs) (filter-entries (nextFilter s (l .at))) (search needs))
     (λ c. search needs)
     (λ c. going-full (c .before .before .loop .inv) (search needs)))
