@@ -65,10 +65,11 @@ pub fn is_tail(b: u8) -> bool
 }
 
 // The byte at a place, 0 past the end: no class that is asked for has the 0.
-pub fn byte_at(text: &[u8], at: usize) -> u8
-    ensures { λ r. ⌜ r ≡ getD (now (text .entry)) at 0 ⌝ }
+pub fn byte_at(text: &[u8], at: Place) -> u8
+    ensures { λ r. ⌜ r ≡ getD (now (text .entry)) (at .0) 0 ⌝ }
 {
-    if at < text.len() { text[at] } else { 0 }
+    let i = at.0;
+    if i < text.len() { text[i] } else { 0 }
 }
 
 // Whether a byte stands at a place and is `c`.

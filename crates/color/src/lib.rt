@@ -329,7 +329,7 @@ fn from_hex(c: u8) -> u8
 fn short_hex(text: &[u8], at: Place) -> u8
     ensures { λ r. ⌜ r ≡ shortHex (now (text .entry)) (at .0) ⌝ }
 {
-    let h = from_hex(bytes::byte_at(text, at.0));
+    let h = from_hex(bytes::byte_at(text, at));
     h * 16 + h
 }
 
@@ -339,7 +339,7 @@ fn hex_pair(text: &[u8], at: Place) -> u8
     ensures { λ r. ⌜ r ≡ hexPair (now (text .entry)) (at .0) ⌝ }
 {
     let i = at.0;
-    from_hex(bytes::byte_at(text, i)) * 16 + from_hex(bytes::byte_at(text, i + 1))
+    from_hex(bytes::byte_at(text, at)) * 16 + from_hex(bytes::byte_at(text, Place(i + 1)))
 }
 
 fn short_color(text: &[u8], at: Place, alpha: u8) -> Color

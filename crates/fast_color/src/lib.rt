@@ -155,7 +155,7 @@ fn parse_hex(text: &[u8], at: Place) -> ColorRead
     ensures { λ r. ⌜ r ≡ parseColor (now (text .entry)) (at .0) ⌝ }
 {
     let from = at.0 + 1;
-    if (from + 6 <= text.len()) & !bytes::is_hex_digit(bytes::byte_at(text, from + 6)) {
+    if (from + 6 <= text.len()) & !bytes::is_hex_digit(bytes::byte_at(text, Place(from + 6))) {
         let v = digits::six_digits(text, Place(from));
         if v < NO_COLOR {
             return ColorRead::Value(packed::number_color(v), Place(from + 6));
@@ -172,7 +172,7 @@ fn parse_short(text: &[u8], at: Place) -> ColorRead
     ensures { λ r. ⌜ r ≡ parseColor (now (text .entry)) (at .0) ⌝ }
 {
     let from = at.0 + 1;
-    if (from + 3 <= text.len()) & !bytes::is_hex_digit(bytes::byte_at(text, from + 3)) {
+    if (from + 3 <= text.len()) & !bytes::is_hex_digit(bytes::byte_at(text, Place(from + 3))) {
         let v = digits::three_digits(text, Place(from));
         if v < NO_COLOR {
             return ColorRead::Value(packed::number_color(v), Place(from + 3));

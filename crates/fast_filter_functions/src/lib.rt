@@ -84,7 +84,7 @@ fn step_told(out: &mut [u64], k: usize, text: &[u8], at: Place) -> bool
     requires { ⌜ k + 24 ≤ length (now out) ⌝ }
     ensures { λ r. ⌜ now (out .exit) ≡ writtenIf r (now (out .entry)) k (now (text .entry)) (at .0) ⌝ }
 {
-    match bytes::byte_at(text, at.0) {
+    match bytes::byte_at(text, at) {
         b'u' => url_told(out, k, text, at),
         b'd' => shadow_told(out, k, text, at),
         b'h' => degrees_told(out, k, text, at),

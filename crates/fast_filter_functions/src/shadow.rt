@@ -25,7 +25,7 @@ pub fn shadow_told(out: &mut [u64], k: usize, text: &[u8], at: Place) -> bool
 {
     if bytes::starts_with(text, at, b"drop-shadow(") {
         let i = at.0;
-        let first = bytes::byte_at(text, i + 12);
+        let first = bytes::byte_at(text, Place(i + 12));
         // No colour begins with a byte between `)` and `A`.
         if (b')' < first) & (first < b'A') {
             return lengths_first(out, k, text, at);

@@ -35,7 +35,7 @@ started : (s : List ℕ) (i : ℕ) → refusedBy 10 i (numberFrom s i)
 unfolding numberFrom finished scaled numberOf
 started s i =
     let m = mantissaAt s (afterSign s i) in
-    let x = exponentAt s (m .end) in
+    let x = exponentAt s (m .end .0) in
     either (m .ok)
     (λ a. either (x .ok)
     (λ b. either (ltb (m .value) cap)

@@ -92,8 +92,8 @@ fn unit_at(text: &[u8], at: Place) -> LengthUnit
     ensures { λ r. ⌜ r ≡ unitAt (now (text .entry)) (at .0) ⌝ }
 {
     let i = at.0;
-    let b = bytes::byte_at(text, i);
-    let c = bytes::byte_at(text, i + 1);
+    let b = bytes::byte_at(text, at);
+    let c = bytes::byte_at(text, Place(i + 1));
     match b {
         b'%' => LengthUnit::Percent,
         b'p' => match c {
@@ -138,8 +138,7 @@ fn no_number_at(text: &[u8], at: Place) -> Refusal
     ensures { λ r. ⌜ r ≡ noNumberAt (now (text .entry)) (at .0) ⌝ }
 {
     let start = bytes::skip_spaces(text, at);
-    let i = start.0;
-    if numbers::starts_number(bytes::byte_at(text, i)) {
+    if numbers::starts_number(bytes::byte_at(text, start)) {
         return refusal_at(text, 10, start);
     }
     refusal_at(text, 9, start)

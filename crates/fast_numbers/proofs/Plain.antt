@@ -78,7 +78,7 @@ module _ (s : List ℕ) where
   unfolding afterSign
   sign-plain i = either (isSign (getD s i 0)) (λ e. simp e (plain-one s i isSign low-sign e)) (λ e. simp e (plain-here s i))
 
-  mantissa-plain : (at : ℕ) → Plain s at (mantissaAt s at .end)
+  mantissa-plain : (at : ℕ) → Plain s at (mantissaAt s at .end .0)
   unfolding mantissaAt mantissaDot
   mantissa-plain at =
       let v : Plain s at (scan isDigit s at) = plain-scan s at isDigit low-digit in
@@ -86,7 +86,7 @@ module _ (s : List ℕ) where
       (λ e. simp e (plain-trans v (plain-trans (plain-one s _ isDot (low-is 46 refl) e) (plain-scan s _ isDigit low-digit))))
       (λ e. simp e v)
 
-  exponent-plain : (at : ℕ) → Plain s at (exponentAt s at .end)
+  exponent-plain : (at : ℕ) → Plain s at (exponentAt s at .end .0)
   unfolding exponentAt exponentFrom
   exponent-plain at =
       either (isE (getD s at 0))

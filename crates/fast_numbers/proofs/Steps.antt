@@ -121,11 +121,11 @@ unscaled (suc f) =
     simp (lt-leb (suc f) 0 (omega arith), lt-ltb 0 (suc f) (omega arith), all)
 
 module _ (s : List ℕ) (at : ℕ) {lead : Lead} (l : lead ≡ leadAt s at) {ok dotted : Bool} {m f end : ℕ}
-    (q : mantissaAt s (lead .from .0) ≡ record { ok = ok; value = m; fraction = f; dotted = dotted; end = end }) (x : (exponentAt s end) .written ≡ false) where
+    (q : mantissaAt s (lead .from .0) ≡ record { ok = ok; value = m; fraction = f; dotted = dotted; end = place end }) (x : (exponentAt s end) .written ≡ false) where
   number-made : made (lead .minus) ok m f end ≡ toldNumber (parseNumber s at)
   unfolding leadAt numberFrom finished scaled toldNumber
   number-made =
-      let same : mantissaAt s (afterSign s (scan isSpace s at)) ≡ record { ok = ok; value = m; fraction = f; dotted = dotted; end = end } = rw l at q in
+      let same : mantissaAt s (afterSign s (scan isSpace s at)) ≡ record { ok = ok; value = m; fraction = f; dotted = dotted; end = place end } = rw l at q in
       let none = unwritten s end x in
       rw (begins s at, l)
       (either ok
@@ -157,7 +157,7 @@ module _ (s : List ℕ) (at : ℕ) {lead : Lead} (l : lead ≡ leadAt s at) {ok 
 module _ (s : List ℕ) (at : ℕ) {lead : Lead} {dot n : ℕ} (v : Begun s at lead dot n) where
   -- digits alone: b is the byte after them, x whether an exponent was seen
   module _ {b : ℕ} {x : Bool} (p : b ≡ getD s dot 0) (h : b ≡ 46 → ⊥) (k : x ≡ (exponentAt s dot) .written) (f : x ≡ false) where
-    whole-is : mantissaAt s (lead .from .0) ≡ record { ok = ltb (lead .from .0) dot; value = value 0 (drop (lead .from .0) s); fraction = 0; dotted = false; end = dot }
+    whole-is : mantissaAt s (lead .from .0) ≡ record { ok = ltb (lead .from .0) dot; value = value 0 (drop (lead .from .0) s); fraction = 0; dotted = false; end = place dot }
     unfolding mantissaAt mantissaDot
     whole-is = simp (← v .ends, ← p, ne-eqb b 46 h)
 
@@ -174,7 +174,7 @@ module _ (s : List ℕ) (at : ℕ) {lead : Lead} {dot n : ℕ} (v : Begun s at l
     abbrev joined : ℕ
     joined = value (value 0 (drop (lead .from .0) s)) (drop (dot + 1) s)
 
-    fraction-is : mantissaAt s (lead .from .0) ≡ record { ok = ltb (dot + 1) end; value = joined; fraction = end - (dot + 1); dotted = true; end = end }
+    fraction-is : mantissaAt s (lead .from .0) ≡ record { ok = ltb (dot + 1) end; value = joined; fraction = end - (dot + 1); dotted = true; end = place end }
     unfolding mantissaAt mantissaDot
     fraction-is = simp (← v .ends, h, ← p)
 

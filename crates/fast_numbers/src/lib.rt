@@ -50,8 +50,7 @@ fn lead_at(text: &[u8], at: Place) -> Lead
         }
     }
     let start = bytes::skip_spaces(text, at);
-    let i = start.0;
-    let minus = bytes::byte_at(text, i) == b'-';
+    let minus = bytes::byte_at(text, start) == b'-';
     Lead {
         from: numbers::after_sign(text, start),
         minus,
@@ -66,10 +65,10 @@ fn told_from(text: &[u8], at: Place, lead: Lead, digits: Digits) -> ToldNumber
     let from = lead.from.0;
     let end = digits.end.0;
     let n = digits.value;
-    if bytes::byte_at(text, end) == b'.' {
+    if bytes::byte_at(text, Place(end)) == b'.' {
         return told_fraction(text, at, lead, digits);
     }
-    if has_exponent(text, end) {
+    if has_exponent(text, Place(end)) {
         return told_plainly(text, at);
     }
     if (from < end) & (n < LIMIT) {
@@ -92,7 +91,7 @@ fn told_fraction(text: &[u8], at: Place, lead: Lead, digits: Digits) -> ToldNumb
     let part = numbers::read_digits(text, Place(next), digits.value);
     let end = part.end.0;
     let n = part.value;
-    if has_exponent(text, end) {
+    if has_exponent(text, Place(end)) {
         return told_plainly(text, at);
     }
     let fraction = end - next;
@@ -106,13 +105,13 @@ fn told_fraction(text: &[u8], at: Place, lead: Lead, digits: Digits) -> ToldNumb
 }
 
 // Whether an exponent follows a number's digits: `em` and `ex` are units.
-fn has_exponent(text: &[u8], at: usize) -> bool
+fn has_exponent(text: &[u8], at: Place) -> bool
     requires { ⌜ length (now text) ≤ 4096 ⌝ }
-    ensures { λ r. ⌜ r ≡ (exponentAt (now (text .entry)) at) .written ⌝ }
+    ensures { λ r. ⌜ r ≡ (exponentAt (now (text .entry)) (at .0)) .written ⌝ }
 {
     let b = bytes::byte_at(text, at);
     if (b == b'e') | (b == b'E') {
-        let c = bytes::byte_at(text, at + 1);
+        let c = bytes::byte_at(text, Place(at.0 + 1));
         return !((c == b'm') | (c == b'x'));
     }
     false

@@ -115,7 +115,7 @@ fn told_linked(text: &[u8], by: usize) -> u64
     ensures { λ r. ⌜ orTold r (innerNumber by (now (text .entry))) ≡ innerNumber by (now (text .entry)) ⌝ }
 {
     if bytes::begins(text, b"url(") {
-        let b = bytes::byte_at(text, 4);
+        let b = bytes::byte_at(text, Place(4));
         if b == b'#' {
             let end = bytes::skip_bare(text, Place(5));
             let q = end.0;

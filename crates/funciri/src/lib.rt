@@ -93,10 +93,9 @@ pub fn parse_func_iri(text: &[u8], at: Place) -> LinkRead
         Consumed::Refused(fault) => LinkRead::Refused(fault),
         Consumed::Next(inner) => {
             let first = bytes::skip_spaces(text, inner);
-            let i = first.0;
-            let b = bytes::byte_at(text, i);
+            let b = bytes::byte_at(text, first);
             if is_quote(b) {
-                return quoted_link(text, Place(i + 1), b);
+                return quoted_link(text, Place(first.0 + 1), b);
             }
             plain_link(text, first)
         }

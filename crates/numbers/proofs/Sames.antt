@@ -31,7 +31,7 @@ value-more acc a b i h = rw (drop-more h b, value-run acc (ahead-stop h) b)
 sign-ahead : {a : List ℕ} (i : ℕ) → Ahead a i → Ahead a (afterSign a i)
 sign-ahead {a} i h = ahead-pass h (sign-goes a i .passes)
 
-mantissa-ahead : {a : List ℕ} (i : ℕ) → Ahead a i → Ahead a (mantissaAt a i .end)
+mantissa-ahead : {a : List ℕ} (i : ℕ) → Ahead a i → Ahead a (mantissaAt a i .end .0)
 mantissa-ahead {a} i h = ahead-pass h (mantissa-goes a i .passes)
 
 -- going on alike with what is read alike

@@ -24,10 +24,10 @@ use Rattle.numbers.specs.declared.NumberRead.{NumberRead}
 use Rattle.numbers.specs.declared.NumberRead.the-variants as N
 
 abbrev moveMantissa : ℕ → Mantissa → Mantissa
-moveMantissa k m = record { ok = m .ok; value = m .value; fraction = m .fraction; dotted = m .dotted; end = k + m .end }
+moveMantissa k m = record { ok = m .ok; value = m .value; fraction = m .fraction; dotted = m .dotted; end = movePlace k (m .end) }
 
 abbrev moveExponent : ℕ → Exponent → Exponent
-moveExponent k e = record { ok = e .ok; minus = e .minus; value = e .value; written = e .written; end = k + e .end }
+moveExponent k e = record { ok = e .ok; minus = e .minus; value = e .value; written = e .written; end = movePlace k (e .end) }
 
 -- the other way round than `cond-push`, for two structs
 cond-pull : {A B : Type 0} (f : A → B) (t : Bool) (x y : A) → cond t (f x) (f y) ≡ f (cond t x y)

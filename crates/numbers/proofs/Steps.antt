@@ -57,15 +57,20 @@ pub ruleset signs = (sign-end, sign-yes, sign-no)
 
 module _ (s : List ℕ) (at : ℕ) {dot n b : ℕ} (p : dot ≡ scan isDigit s at) (q : n ≡ min cap (value 0 (drop at s))) (w : b ≡ getD s dot 0) where
   pub mantissa-dot : {end v : ℕ} → b ≡ 46 → end ≡ scan isDigit s (dot + 1) → v ≡ min cap (value n (drop (dot + 1) s))
-      → _≡_ {A = Mantissa} (record { ok = ltb (dot + 1) end; value = v; fraction = end - (dot + 1); dotted = true; end = end }) (heldMantissa (mantissaAt s at))
+      → _≡_ {A = Mantissa} (record { ok = ltb (dot + 1) end; value = v; fraction = end - (dot + 1); dotted = true; end = place end }) (heldMantissa (mantissaAt s at))
   unfolding mantissaAt mantissaDot
   mantissa-dot e f g = cc (capped (value 0 (drop at s)) (drop (dot + 1) s))
 
-  pub mantissa-plain : (b ≡ 46 → ⊥) → _≡_ {A = Mantissa} (record { ok = ltb at dot; value = n; fraction = 0; dotted = false; end = dot }) (heldMantissa (mantissaAt s at))
+  pub mantissa-plain : (b ≡ 46 → ⊥) → _≡_ {A = Mantissa} (record { ok = ltb at dot; value = n; fraction = 0; dotted = false; end = place dot }) (heldMantissa (mantissaAt s at))
   unfolding mantissaAt mantissaDot
   mantissa-plain e = cc (ne-eqb b 46 e)
 
 pub ruleset mantissas = (mantissa-dot, mantissa-plain)
+
+pub exponent-digits : (s : List ℕ) (from : ℕ) (minus : Bool) {end v : ℕ} → end ≡ scan isDigit s from → v ≡ min cap (value 0 (drop from s))
+    → _≡_ {A = Exponent} (record { ok = ltb from end; minus = minus; value = v; written = true; end = place end }) (heldExponent (exponentFrom s from minus))
+unfolding exponentFrom
+exponent-digits s from minus p q = cc
 
 module _ (s : List ℕ) (at : ℕ) {r : Exponent} where
   pub exponent-end : r ≡ noExponent at → length s ≤ at → r ≡ heldExponent (exponentAt s at)
@@ -131,22 +136,22 @@ module _ (minus : Bool) (m : ℕ) (sc : Scale) (whole : Bool) (start end : ℕ) 
 pub ruleset scalings = (scaled-near, scaled-far)
 
 module _ (minus : Bool) (m : Mantissa) (e : Exponent) (start : ℕ) where
-  pub finish-mantissa : {r : NumberRead} → not (m .ok) ≡ true → r ≡ refusedAt T.WrongForm start (m .end) → r ≡ finished minus m e start
+  pub finish-mantissa : {r : NumberRead} → not (m .ok) ≡ true → r ≡ refusedAt T.WrongForm start (m .end .0) → r ≡ finished minus m e start
   unfolding finished
   finish-mantissa p x = simp (not-true (m .ok) p) x
 
   module _ (p : not (m .ok) ≡ false) where
-    pub finish-exponent : {r : NumberRead} → not (e .ok) ≡ true → r ≡ refusedAt T.WrongForm start (e .end) → r ≡ finished minus m e start
+    pub finish-exponent : {r : NumberRead} → not (e .ok) ≡ true → r ≡ refusedAt T.WrongForm start (e .end .0) → r ≡ finished minus m e start
     unfolding finished
     finish-exponent q x = simp (not-false (m .ok) p, not-true (e .ok) q) x
 
     module _ (q : not (e .ok) ≡ false) where
-      pub finish-large : {r : NumberRead} → cap ≤ m .value → r ≡ refusedAt T.TooLarge start (e .end) → r ≡ finished minus m e start
+      pub finish-large : {r : NumberRead} → cap ≤ m .value → r ≡ refusedAt T.TooLarge start (e .end .0) → r ≡ finished minus m e start
       unfolding finished
       finish-large h x = simp (not-false (m .ok) p, not-false (e .ok) q, le-ltb (m .value) cap h) x
 
       pub finish-scaled : {r : NumberRead} {sc : Scale} → sc ≡ scaleOf (e .minus) (e .value) (m .fraction) → m .value < cap
-          → r ≡ scaled minus (m .value) sc (not (m .dotted || e .written)) start (e .end) → r ≡ finished minus m e start
+          → r ≡ scaled minus (m .value) sc (not (m .dotted || e .written)) start (e .end .0) → r ≡ finished minus m e start
       unfolding finished
       finish-scaled u h x = simp (not-false (m .ok) p, not-false (e .ok) q, lt-ltb (m .value) cap h, ← u) x
 
@@ -178,7 +183,7 @@ held-scale minus v eminus e f whole start end l =
 held : (minus : Bool) (m : Mantissa) (e : Exponent) (start : ℕ) → m .fraction ≤ 4096 → finished minus (heldMantissa m) (heldExponent e) start ≡ finished minus m e start
 unfolding finished
 held minus m e start l =
-    simp (held-scale minus (min cap (m .value)) (e .minus) (e .value) (m .fraction) (not (m .dotted || e .written)) start (e .end) l)
+    simp (held-scale minus (min cap (m .value)) (e .minus) (e .value) (m .fraction) (not (m .dotted || e .written)) start (e .end .0) l)
     (held-value minus m e start)
 
 -- the fraction is a part of the text
@@ -187,8 +192,8 @@ unfolding mantissaAt mantissaDot
 fraction-le s at =
     let dot = scan isDigit s at in
     elim (eqb (getD s dot 0) 46) as (λ t. (cond {A = Mantissa} t
-    (record { ok = ltb (dot + 1) (scan isDigit s (dot + 1)); value = value (value 0 (drop at s)) (drop (dot + 1) s); fraction = scan isDigit s (dot + 1) - (dot + 1); dotted = true; end = scan isDigit s (dot + 1) })
-    (record { ok = ltb at dot; value = value 0 (drop at s); fraction = 0; dotted = false; end = dot })) .fraction ≤ length s)
+    (record { ok = ltb (dot + 1) (scan isDigit s (dot + 1)); value = value (value 0 (drop at s)) (drop (dot + 1) s); fraction = scan isDigit s (dot + 1) - (dot + 1); dotted = true; end = place (scan isDigit s (dot + 1)) })
+    (record { ok = ltb at dot; value = value 0 (drop at s); fraction = 0; dotted = false; end = place dot })) .fraction ≤ length s)
     [ true ↦ run-inside isDigit s (dot + 1) | false ↦ omega arith ]
 
 pub exponent-small : (s : List ℕ) (at : ℕ) (e : Exponent) → e ≡ heldExponent (exponentAt s at) → e .value ≤ cap
@@ -197,12 +202,12 @@ exponent-small s at e u = rw u (omega arith)
 pub fraction-small : (s : List ℕ) (at : ℕ) (m : Mantissa) → m ≡ heldMantissa (mantissaAt s at) → length s ≤ 4096 → m .fraction ≤ 4096
 fraction-small s at m w h = rw w (omega (arith, fraction-le s at))
 
-module _ (s : List ℕ) (start : ℕ) {b from : ℕ} {m : Mantissa} {e : Exponent} (p : b ≡ getD s start 0) (q : from ≡ afterSign s start) (w : m ≡ heldMantissa (mantissaAt s from)) (u : e ≡ heldExponent (exponentAt s (m .end))) where
+module _ (s : List ℕ) (start : ℕ) {b from : ℕ} {m : Mantissa} {e : Exponent} (p : b ≡ getD s start 0) (q : from ≡ afterSign s start) (w : m ≡ heldMantissa (mantissaAt s from)) (u : e ≡ heldExponent (exponentAt s (m .end .0))) where
   pub number-from : {r : NumberRead} → length s ≤ 4096 → r ≡ finished (eqb b 45) m e start → r ≡ numberFrom s start
   unfolding numberFrom
   number-from {r} h x =
-      let y : r ≡ finished (eqb b 45) (heldMantissa (mantissaAt s from)) (heldExponent (exponentAt s ((mantissaAt s from) .end))) start = simp (u, w) at x in
-      simp (← p, ← q) (y ∙ held (eqb b 45) (mantissaAt s from) (exponentAt s ((mantissaAt s from) .end)) start (omega (arith, fraction-le s from)))
+      let y : r ≡ finished (eqb b 45) (heldMantissa (mantissaAt s from)) (heldExponent (exponentAt s ((mantissaAt s from) .end .0))) start = simp (u, w) at x in
+      simp (← p, ← q) (y ∙ held (eqb b 45) (mantissaAt s from) (exponentAt s ((mantissaAt s from) .end .0)) start (omega (arith, fraction-le s from)))
 
 pub ruleset readings = (exponent-small, fraction-small, number-from)
 

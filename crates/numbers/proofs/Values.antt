@@ -96,7 +96,7 @@ module _ (s : List ℕ) where
   unfolding afterSign
   sign-goes i = either (isSign (getD s i 0)) (λ e. simp e (goes-one s i isSign refl refl e)) (λ e. simp e (goes-here s i))
 
-  pub mantissa-goes : (at : ℕ) → Goes s at (mantissaAt s at .end)
+  pub mantissa-goes : (at : ℕ) → Goes s at (mantissaAt s at .end .0)
   unfolding mantissaAt mantissaDot
   mantissa-goes at =
       let v : Goes s at (scan isDigit s at) = goes-scan s at isDigit digit-stop in
@@ -104,7 +104,7 @@ module _ (s : List ℕ) where
       (λ e. simp e (goes-trans v (goes-trans (goes-one s _ isDot refl refl e) (goes-scan s _ isDigit digit-stop))))
       (λ e. simp e v)
 
-  mantissa-least : (at : ℕ) → mantissaAt s at .ok ≡ true → at + 1 ≤ mantissaAt s at .end
+  mantissa-least : (at : ℕ) → mantissaAt s at .ok ≡ true → at + 1 ≤ mantissaAt s at .end .0
   unfolding mantissaAt mantissaDot
   mantissa-least at ok =
       let dot = scan isDigit s at in
@@ -116,7 +116,7 @@ module _ (s : List ℕ) where
       let q : ltb at dot ≡ true = simp e at ok in
       simp e (omega (arith, ltb-true at dot q)))
 
-  exponent-goes : (at : ℕ) → Goes s at (exponentAt s at .end)
+  exponent-goes : (at : ℕ) → Goes s at (exponentAt s at .end .0)
   unfolding exponentAt exponentFrom
   exponent-goes at =
       either (isE (getD s at 0))
@@ -128,7 +128,7 @@ module _ (s : List ℕ) where
 abbrev pub made : Bool → Mantissa → Exponent → Number
 made minus m e =
     let sc = scaleOf (e .minus) (e .value) (m .fraction) in
-    record { value = valueOf minus (m .value) (sc .down) (sc .by); whole = not (m .dotted || e .written); end = place (e .end) }
+    record { value = valueOf minus (m .value) (sc .down) (sc .by); whole = not (m .dotted || e .written); end = e .end }
 
 -- and what was judged before it was made
 pub record Judged (m : Mantissa) (e : Exponent) : Type 0 where
@@ -137,7 +137,7 @@ pub record Judged (m : Mantissa) (e : Exponent) : Type 0 where
   pub near : scaleOf (e .minus) (e .value) (m .fraction) .by ≤ 22
 
 finished-values : (P : Number → Place → Type 0) (minus : Bool) (m : Mantissa) (e : Exponent) (start : ℕ)
-    → (Judged m e → P (made minus m e) (place (e .end))) → allValues P (finished minus m e start)
+    → (Judged m e → P (made minus m e) (e .end)) → allValues P (finished minus m e start)
 unfolding finished scaled
 finished-values P minus m e start g =
     either (m .ok)
@@ -156,10 +156,10 @@ module _ (s : List ℕ) (i : ℕ) where
   mantissaOf = mantissaAt s (afterSign s (scan isSpace s i))
 
   abbrev pub exponentOf : Exponent
-  exponentOf = exponentAt s (mantissaOf .end)
+  exponentOf = exponentAt s (mantissaOf .end .0)
 
   pub number-values : (P : Number → Place → Type 0)
-      → (scan isSpace s i < length s → Judged mantissaOf exponentOf → P (made (eqb (getD s (scan isSpace s i) 0) 45) mantissaOf exponentOf) (place (exponentOf .end)))
+      → (scan isSpace s i < length s → Judged mantissaOf exponentOf → P (made (eqb (getD s (scan isSpace s i) 0) 45) mantissaOf exponentOf) (exponentOf .end))
       → allValues P (parseNumber s i)
   unfolding parseNumber numberFrom bind
   number-values P g =
@@ -188,13 +188,13 @@ module _ (s : List ℕ) (i : ℕ) where
       let start = scan isSpace s i in
       let m = mantissaOf s i in
       let e = exponentOf s i in
-      let v : Goes s start (e .end) = goes-trans (sign-goes s start) (goes-trans (mantissa-goes s (afterSign s start)) (exponent-goes s (m .end))) in
+      let v : Goes s start (e .end .0) = goes-trans (sign-goes s start) (goes-trans (mantissa-goes s (afterSign s start)) (exponent-goes s (m .end .0))) in
       number-values s i (Taken s i)
       (λ l j.
       let sc = scaleOf (e .minus) (e .value) (m .fraction) in
       record {
         passes = pass-trans (pass-scan s i isSpace refl) (v .passes);
-        least = omega (arith, scan-ge isSpace s i, sign-goes s start .passes .grows, mantissa-least s (afterSign s start) (j .mantissa), exponent-goes s (m .end) .passes .grows);
+        least = omega (arith, scan-ge isSpace s i, sign-goes s start .passes .grows, mantissa-least s (afterSign s start) (j .mantissa), exponent-goes s (m .end .0) .passes .grows);
         inside = v .inside (omega arith);
         within = value-within (eqb (getD s start 0) 45) (m .value) (sc .down) (sc .by) (j .small) (omega (arith, j .near));
       })

@@ -21,7 +21,7 @@ decimal minus m down by = record { minus = minus; over = cond down m (m * 10 ^ b
 unfoldable pub written : List ℕ → ℕ → Decimal
 written s start =
     let m = mantissaAt s (afterSign s start) in
-    let e = exponentAt s (m .end) in
+    let e = exponentAt s (m .end .0) in
     record {
       minus = eqb (getD s start 0) 45;
       over = m .value * cond (e .minus) 1 (10 ^ e .value);

@@ -43,9 +43,9 @@ mantissaDot s at dot =
       value = value (value 0 (drop at s)) (drop (dot + 1) s);
       fraction = scan isDigit s (dot + 1) - (dot + 1);
       dotted = true;
-      end = scan isDigit s (dot + 1);
+      end = place (scan isDigit s (dot + 1));
     })
-    (record { ok = ltb at dot; value = value 0 (drop at s); fraction = 0; dotted = false; end = dot })
+    (record { ok = ltb at dot; value = value 0 (drop at s); fraction = 0; dotted = false; end = place dot })
 
 unfoldable pub mantissaAt : List ℕ → ℕ → Mantissa
 mantissaAt s at = mantissaDot s at (scan isDigit s at)
@@ -53,10 +53,10 @@ mantissaAt s at = mantissaDot s at (scan isDigit s at)
 -- "at least one digit" of an exponent
 unfoldable pub exponentFrom : List ℕ → ℕ → Bool → Exponent
 exponentFrom s from minus =
-    record { ok = ltb from (scan isDigit s from); minus = minus; value = value 0 (drop from s); written = true; end = scan isDigit s from }
+    record { ok = ltb from (scan isDigit s from); minus = minus; value = value 0 (drop from s); written = true; end = place (scan isDigit s from) }
 
 abbrev pub noExponent : ℕ → Exponent
-noExponent at = record { ok = true; minus = false; value = 0; written = false; end = at }
+noExponent at = record { ok = true; minus = false; value = 0; written = false; end = place at }
 
 -- "An `e` or `E` followed by `m` or `x` is no exponent; any other needs an optional sign and at least one digit."
 -- The bytes are e 101, E 69, m 109, x 120 and - 45.
@@ -98,16 +98,16 @@ finished minus m e start =
     cond (m .ok)
     (cond (e .ok)
     (cond (ltb (m .value) cap)
-    (scaled minus (m .value) (scaleOf (e .minus) (e .value) (m .fraction)) (not (m .dotted || e .written)) start (e .end))
-    (refusedAt T.TooLarge start (e .end)))
-    (refusedAt T.WrongForm start (e .end)))
-    (refusedAt T.WrongForm start (m .end))
+    (scaled minus (m .value) (scaleOf (e .minus) (e .value) (m .fraction)) (not (m .dotted || e .written)) start (e .end .0))
+    (refusedAt T.TooLarge start (e .end .0)))
+    (refusedAt T.WrongForm start (e .end .0)))
+    (refusedAt T.WrongForm start (m .end .0))
 
 -- "Otherwise: an optional sign, digits .. An `e` or `E` ..": the number whose first byte is at `start`, minus (45) or not
 unfoldable pub numberFrom : List ℕ → ℕ → NumberRead
 numberFrom s start =
     let m = mantissaAt s (afterSign s start) in
-    finished (eqb (getD s start 0) 45) m (exponentAt s (m .end)) start
+    finished (eqb (getD s start 0) 45) m (exponentAt s (m .end .0)) start
 
 -- "Skip spaces. If the text has ended, or the next byte is not a digit, sign or dot: 9, and the place stays there."
 unfoldable pub parseNumber : List ℕ → ℕ → NumberRead

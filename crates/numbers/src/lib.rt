@@ -39,7 +39,7 @@ struct Mantissa {
     value: u64,
     fraction: usize,
     dotted: bool,
-    end: usize,
+    end: Place,
 }
 
 struct Exponent {
@@ -47,7 +47,7 @@ struct Exponent {
     minus: bool,
     value: u64,
     written: bool,
-    end: usize,
+    end: Place,
 }
 
 // By how many places the point moves, and whether down.
@@ -159,22 +159,22 @@ fn mantissa_at(text: &[u8], at: Place) -> Mantissa
 {
     let whole = read_digits(text, at, 0);
     let i = at.0;
-    let dot = whole.end.0;
+    let dot = whole.end;
     let n = whole.value;
     if bytes::byte_at(text, dot) == b'.' {
-        let next = dot + 1;
+        let next = dot.0 + 1;
         let part = read_digits(text, Place(next), n);
-        let end = part.end.0;
+        let end = part.end;
         return Mantissa {
-            ok: next < end,
+            ok: next < end.0,
             value: part.value,
-            fraction: end - next,
+            fraction: end.0 - next,
             dotted: true,
             end,
         };
     }
     Mantissa {
-        ok: i < dot,
+        ok: i < dot.0,
         value: n,
         fraction: 0,
         dotted: false,
@@ -187,9 +187,9 @@ fn exponent_from(text: &[u8], from: Place, minus: bool) -> Exponent
 {
     let d = read_digits(text, from, 0);
     let i = from.0;
-    let end = d.end.0;
+    let end = d.end;
     Exponent {
-        ok: i < end,
+        ok: i < end.0,
         minus,
         value: d.value,
         written: true,
@@ -197,8 +197,8 @@ fn exponent_from(text: &[u8], from: Place, minus: bool) -> Exponent
     }
 }
 
-fn no_exponent(at: usize) -> Exponent
-    ensures { λ r. ⌜ r ≡ noExponent at ⌝ }
+fn no_exponent(at: Place) -> Exponent
+    ensures { λ r. ⌜ r ≡ noExponent (at .0) ⌝ }
 {
     Exponent {
         ok: true,
@@ -209,23 +209,24 @@ fn no_exponent(at: usize) -> Exponent
     }
 }
 
-fn exponent_at(text: &[u8], at: usize) -> Exponent
-    ensures { λ r. ⌜ r ≡ heldExponent (exponentAt (now (text .entry)) at) ⌝ }
+fn exponent_at(text: &[u8], at: Place) -> Exponent
+    ensures { λ r. ⌜ r ≡ heldExponent (exponentAt (now (text .entry)) (at .0)) ⌝ }
 {
-    if text.len() <= at {
+    let i = at.0;
+    if text.len() <= i {
         return no_exponent(at);
     }
-    let b = text[at];
+    let b = text[i];
     if !((b == b'e') | (b == b'E')) {
         return no_exponent(at);
     }
-    let next = at + 1;
+    let next = Place(i + 1);
     let c = bytes::byte_at(text, next);
     // `em` and `ex` are units
     if (c == b'm') | (c == b'x') {
         return no_exponent(at);
     }
-    exponent_from(text, after_sign(text, Place(next)), c == b'-')
+    exponent_from(text, after_sign(text, next), c == b'-')
 }
 
 fn scale_of(minus: bool, e: u64, f: u64) -> Scale
@@ -269,27 +270,20 @@ fn value_of(minus: bool, m: u64, down: bool, by: usize) -> f64
     signed(minus, x * p)
 }
 
-fn refused_at(trouble: Trouble, start: Place, to: usize) -> NumberRead
-    ensures { λ r. ⌜ r ≡ refusedAt trouble (start .0) to ⌝ }
+fn refused_at(trouble: Trouble, start: Place, to: Place) -> NumberRead
+    ensures { λ r. ⌜ r ≡ refusedAt trouble (start .0) (to .0) ⌝ }
 {
-    NumberRead::Refused(stream::trouble_at(trouble, start, start, Place(to)))
+    NumberRead::Refused(stream::trouble_at(trouble, start, start, to))
 }
 
-fn scaled_number(minus: bool, m: u64, s: Scale, whole: bool, start: Place, end: usize) -> NumberRead
+fn scaled_number(minus: bool, m: u64, s: Scale, whole: bool, start: Place, end: Place) -> NumberRead
     requires { ⌜ m < cap ⌝ }
-    ensures { λ r. ⌜ r ≡ scaled minus m s whole (start .0) end ⌝ }
+    ensures { λ r. ⌜ r ≡ scaled minus m s whole (start .0) (end .0) ⌝ }
 {
     let by = s.by;
     if by <= 22 {
         let value = value_of(minus, m, s.down, by as usize);
-        return NumberRead::Value(
-            Number {
-                value,
-                whole,
-                end: Place(end),
-            },
-            Place(end),
-        );
+        return NumberRead::Value(Number { value, whole, end }, end);
     }
     refused_at(Trouble::ScaleOutOfRange, start, end)
 }
@@ -318,8 +312,7 @@ fn number_from(text: &[u8], start: Place) -> NumberRead
     requires { ⌜ length (now text) ≤ 4096 ⌝ }
     ensures { λ r. ⌜ r ≡ numberFrom (now (text .entry)) (start .0) ⌝ }
 {
-    let i = start.0;
-    let b = bytes::byte_at(text, i);
+    let b = bytes::byte_at(text, start);
     let m = mantissa_at(text, after_sign(text, start));
     let end = m.end;
     let e = exponent_at(text, end);
@@ -334,12 +327,12 @@ pub fn parse_number(text: &[u8], at: Place) -> NumberRead
     let start = bytes::skip_spaces(text, at);
     let i = start.0;
     if text.len() <= i {
-        return refused_at(Trouble::TextEnded, start, i);
+        return refused_at(Trouble::TextEnded, start, start);
     }
     if starts_number(text[i]) {
         return number_from(text, start);
     }
-    refused_at(Trouble::WrongByte, start, i)
+    refused_at(Trouble::WrongByte, start, start)
 }
 
 // A number, and a `%` directly after it: its hundredth then.

@@ -50,7 +50,7 @@ written-under : (s : List ℕ) (i : ℕ) → 0 < written s i .under
 unfolding written
 written-under s i =
     let m = mantissaAt s (afterSign s i) in
-    let x = exponentAt s (m .end) in
+    let x = exponentAt s (m .end .0) in
     mul-pos (ten-pos (m .fraction)) (moved-pos (x .minus) (x .value))
 
 -- A hundredth of q, as document 01 has it: q rounded to a double, and that, divided by 100, rounded again

@@ -92,7 +92,7 @@ digits-some (dotted ds f fs) = omega (arith, length-append (numerals ds) (46 ∷
 
 -- the mantissa of digits
 mantissa-is : (s : List ℕ) (at : ℕ) (m : Digits) (rest : List ℕ) → isDigit (getD rest 0 0) ≡ false → eqb (getD rest 0 0) 46 ≡ false → drop at s ≡ digits m ++ rest
-    → mantissaAt s at ≡ record { ok = true; value = joined m; fraction = fraction-digits m; dotted = not (isWhole m); end = at + length (digits m) }
+    → mantissaAt s at ≡ record { ok = true; value = joined m; fraction = fraction-digits m; dotted = not (isWhole m); end = place (at + length (digits m)) }
 unfolding mantissaAt mantissaDot digits joined fraction-digits isWhole
 mantissa-is s at (whole d ds) rest e f h =
     simp (
@@ -159,7 +159,7 @@ module _ (s : List ℕ) (at : ℕ) (g : Sign) (d : Digit) (ds : List Digit) (res
       go minus = refl
 
   from-is : exponentFrom s (afterSign s at) (eqb (getD s at 0) 45)
-      ≡ record { ok = true; minus = isMinus g; value = spelt 0 (d ∷ ds); written = true; end = at + length (sign g ++ numerals (d ∷ ds)) }
+      ≡ record { ok = true; minus = isMinus g; value = spelt 0 (d ∷ ds); written = true; end = place (at + length (sign g ++ numerals (d ∷ ds))) }
   unfolding exponentFrom
   from-is =
       let from = at + length (sign g) in
@@ -179,7 +179,7 @@ module _ (s : List ℕ) (at : ℕ) (g : Sign) (d : Digit) (ds : List Digit) (res
 -- and with its letter
 lettered : (s : List ℕ) (at c : ℕ) (g : Sign) (d : Digit) (ds : List Digit) (rest : List ℕ) → (eqb c 101 || eqb c 69) ≡ true → isDigit (getD rest 0 0) ≡ false
     → drop at s ≡ (c ∷ (sign g ++ numerals (d ∷ ds))) ++ rest
-    → exponentAt s at ≡ record { ok = true; minus = isMinus g; value = spelt 0 (d ∷ ds); written = true; end = at + suc (length (sign g ++ numerals (d ∷ ds))) }
+    → exponentAt s at ≡ record { ok = true; minus = isMinus g; value = spelt 0 (d ∷ ds); written = true; end = place (at + suc (length (sign g ++ numerals (d ∷ ds)))) }
 unfolding exponentAt
 lettered s at c g d ds rest q e h =
     let k : drop at s ≡ c ∷ (sign g ++ (numerals (d ∷ ds) ++ rest)) = h ∙ ap (λ (y : List ℕ). c ∷ y) (append-assoc (sign g) (numerals (d ∷ ds)) rest) in
@@ -188,7 +188,7 @@ lettered s at c g d ds rest q e h =
     simp (byte-here s at _ k, q, no-unit s (at + 1) g d ds rest e j, from-is s (at + 1) g d ds rest e j, y)
 
 exponent-is : (s : List ℕ) (at : ℕ) (x : Exponent) (rest : List ℕ) → Ends rest → drop at s ≡ exponent x ++ rest
-    → exponentAt s at ≡ record { ok = true; minus = falls x; value = power x; written = not (isAbsent x); end = at + length (exponent x) }
+    → exponentAt s at ≡ record { ok = true; minus = falls x; value = power x; written = not (isAbsent x); end = place (at + length (exponent x)) }
 unfolding exponentAt exponent falls power isAbsent
 exponent-is s at absent rest e h =
     let z : at + 0 ≡ at = omega arith in
@@ -278,11 +278,11 @@ module _ (s : List ℕ) (i : ℕ) (l : List Blank) (t : Number) (rest : List ℕ
   at-digits = past s start (sign g) after-g at-start
 
   mantissa-read : mantissaAt s (start + length (sign g))
-      ≡ record { ok = true; value = joined m; fraction = fraction-digits m; dotted = not (isWhole m); end = start + length (sign g) + length (digits m) }
+      ≡ record { ok = true; value = joined m; fraction = fraction-digits m; dotted = not (isWhole m); end = place (start + length (sign g) + length (digits m)) }
   mantissa-read = mantissa-is s (start + length (sign g)) m (exponent x ++ rest) (after-digit x rest e) (after-dot x rest e) at-digits
 
   exponent-read : exponentAt s (start + length (sign g) + length (digits m))
-      ≡ record { ok = true; minus = falls x; value = power x; written = not (isAbsent x); end = end }
+      ≡ record { ok = true; minus = falls x; value = power x; written = not (isAbsent x); end = place end }
   exponent-read =
       rw end-is at (exponent-is s (start + length (sign g) + length (digits m)) x rest e (past s (start + length (sign g)) (digits m) (exponent x ++ rest) at-digits))
 

@@ -75,28 +75,34 @@ fn blank_end(a: u8, b: u8, c: u8) -> usize
 }
 
 // The bytes of the white space that starts at a place, 0 for none.
-fn blank_at(text: &[u8], at: usize) -> usize
-    requires { ⌜ at < length (now text) ⌝ }
-    ensures { λ r. ⌜ r ≡ blankAt (now (text .entry)) at ⌝ }
+fn blank_at(text: &[u8], at: Place) -> usize
+    requires { ⌜ at .0 < length (now text) ⌝ }
+    ensures { λ r. ⌜ r ≡ blankAt (now (text .entry)) (at .0) ⌝ }
     ensures { λ r. ⌜ r ≤ 3 ⌝ }
 {
-    let a = text[at];
+    let i = at.0;
+    let a = text[i];
     if is_plain(a) {
         return 0;
     }
-    blank_len(a, byte_at(text, at + 1), byte_at(text, at + 2))
+    blank_len(a, byte_at(text, Place(i + 1)), byte_at(text, Place(i + 2)))
 }
 
 // The byte that stands so many before a place, 0 for none.
-fn byte_before(text: &[u8], end: usize, k: usize) -> u8
-    ensures { λ r. ⌜ r ≡ byteBefore (now (text .entry)) end k ⌝ }
+fn byte_before(text: &[u8], end: Place, k: usize) -> u8
+    ensures { λ r. ⌜ r ≡ byteBefore (now (text .entry)) (end .0) k ⌝ }
 {
-    if k <= end { byte_at(text, end - k) } else { 0 }
+    let e = end.0;
+    if k <= e {
+        byte_at(text, Place(e - k))
+    } else {
+        0
+    }
 }
 
 // The bytes of the white space that ends at a place, 0 for none. No walk: the first byte of a character is no later byte of one.
-fn blank_before(text: &[u8], end: usize) -> usize
-    ensures { λ r. ⌜ r ≡ blankBefore (now (text .entry)) end ⌝ }
+fn blank_before(text: &[u8], end: Place) -> usize
+    ensures { λ r. ⌜ r ≡ blankBefore (now (text .entry)) (end .0) ⌝ }
 {
     let a = byte_before(text, end, 1);
     if is_plain(a) {
@@ -111,7 +117,7 @@ pub fn trim_start(text: &[u8]) -> Place
 {
     let mut i: usize = 0;
     while i < text.len() {
-        let n = blank_at(text, i);
+        let n = blank_at(text, Place(i));
         if n == 0 {
             return Place(i);
         }
@@ -126,7 +132,7 @@ pub fn trim_end(text: &[u8]) -> Place
 {
     let mut end = text.len();
     while 0 < end {
-        let n = blank_before(text, end);
+        let n = blank_before(text, Place(end));
         if n == 0 {
             return Place(end);
         }

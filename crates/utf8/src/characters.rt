@@ -56,15 +56,16 @@ fn row_len(row: u8, b1: u8, b2: u8, b3: u8) -> usize
 }
 
 // The octets of the character at a place, 0 where none is well formed.
-fn char_len(text: &[u8], at: usize) -> usize
-    requires { ⌜ at < length (now text) ⌝ }
-    ensures { λ r. ⌜ r ≡ charLen (drop at (now (text .entry))) ⌝ }
+fn char_len(text: &[u8], at: Place) -> usize
+    requires { ⌜ at .0 < length (now text) ⌝ }
+    ensures { λ r. ⌜ r ≡ charLen (drop (at .0) (now (text .entry))) ⌝ }
 {
+    let i = at.0;
     row_len(
-        lead_row(text[at]),
-        byte_at(text, at + 1),
-        byte_at(text, at + 2),
-        byte_at(text, at + 3),
+        lead_row(text[i]),
+        byte_at(text, Place(i + 1)),
+        byte_at(text, Place(i + 2)),
+        byte_at(text, Place(i + 3)),
     )
 }
 
@@ -88,27 +89,28 @@ fn is_ascii(text: &[u8]) -> bool
     most < 128
 }
 
-// Whether the four bytes from `i` on are ASCII. No test waits for another, so that the four are compared at once.
-fn four(text: &[u8], i: usize) -> bool
-    requires { ⌜ i + 4 ≤ length (now text) ⌝ }
-    ensures { λ r. ⌜ r ≡ isAscii (take 4 (drop i (now (text .entry)))) ⌝ }
+// Whether the four bytes from a place on are ASCII. No test waits for another, so that the four are compared at once.
+fn four(text: &[u8], at: Place) -> bool
+    requires { ⌜ at .0 + 4 ≤ length (now text) ⌝ }
+    ensures { λ r. ⌜ r ≡ isAscii (take 4 (drop (at .0) (now (text .entry)))) ⌝ }
 {
+    let i = at.0;
     (text[i] < 128) & ((text[i + 1] < 128) & ((text[i + 2] < 128) & (text[i + 3] < 128)))
 }
 
 // A place that only ASCII stands before, gone to by fours.
-fn fours(text: &[u8]) -> usize
-    ensures { λ r. ⌜ isAscii (take r (now (text .entry))) ≡ true ⌝ }
+fn fours(text: &[u8]) -> Place
+    ensures { λ r. ⌜ isAscii (take (r .0) (now (text .entry))) ≡ true ⌝ }
 {
     let mut i: usize = 0;
     while i + 4 <= text.len() {
-        if four(text, i) {
+        if four(text, Place(i)) {
             i += 4;
         } else {
-            return i;
+            return Place(i);
         }
     }
-    i
+    Place(i)
 }
 
 // Whether a text is UTF-8. After the fours a run of ASCII is gone through a byte a turn.
@@ -121,12 +123,13 @@ pub fn utf8_test(text: &[u8]) -> Utf8
             return Utf8::WellFormed;
         }
     }
-    let mut i: usize = fours(text);
+    let start = fours(text);
+    let mut i = start.0;
     while i < text.len() {
         if text[i] < 128 {
             i += 1;
         } else {
-            let n = char_len(text, i);
+            let n = char_len(text, Place(i));
             if n == 0 {
                 return Utf8::IllFormed(Place(i));
             }
@@ -169,7 +172,7 @@ pub fn skip_chars(text: &[u8], at: Place, count: usize) -> Place
         if text.len() <= i {
             return Place(i);
         }
-        i += char_len(text, i);
+        i += char_len(text, Place(i));
         left -= 1;
     }
     Place(i)

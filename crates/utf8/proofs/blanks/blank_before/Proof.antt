@@ -13,7 +13,7 @@ blank-before-spec =
     (λ c κs. search needs)
     (λ c.
     let s = now (c .before .before .before .before .args .text) in
-    let e = c .before .before .before .before .args .end in
+    let e = c .before .before .before .before .args .end .0 in
     unfold blankBefore in plain-end (byteBefore s e 1) (byteBefore s e 2) (byteBefore s e 3) {r = c .before .is-plain .result} (cc) (cc))
     (λ c κs. search needs)
     (λ c κs. search needs)
