@@ -189,6 +189,12 @@ begins-with (w ∷ ws) (x ∷ xs) e =
     let t : xs ≡ ws ++ drop (length ws) xs = begins-with ws xs (and-second (eqb x w) (startsWith ws xs) e) in
     cc
 
+-- its first byte is the word's
+pub starts-first : (w : ℕ) (ws s : List ℕ) → startsWith (w ∷ ws) s ≡ true → getD s 0 0 ≡ w
+unfolding startsWith
+starts-first w ws [] e = let z : _≡_ {A = ℕ} 0 1 = cc in absurd (omega arith)
+starts-first w ws (x ∷ xs) e = eqb-true x w (and-first (eqb x w) (startsWith ws xs) e)
+
 -- a byte of a word is no space, no `#`, and ASCII
 pub record Wordly (b : ℕ) : Type 0 where
   pub low : 45 ≤ b

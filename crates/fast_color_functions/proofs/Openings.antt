@@ -5,11 +5,11 @@ use mathlib.Core.List.{List, [], _∷_}
 use mathlib.Core.Path.{_≡_, refl, sym, _∙_}
 use native.Mathlib.Nat.{add-zero}
 use native.Mathlib.Omega.{arith}
-use borrow.Author.Tests.{lt-leb, eqb-true}
+use borrow.Author.Tests.{lt-leb}
 use lib.Dec.{eqb, leb}
 use lib.ListN.{length, getD, drop}
 use lib.Seq.{getD-drop}
-use Rattle.bytes.proofs.Ranges.{and-first}
+use Rattle.bytes.proofs.Wording.{starts-first}
 use Rattle.bytes.specs.Bytes.{within, isSpace}
 use Rattle.bytes.specs.Flow.{bind}
 use Rattle.bytes.specs.Scan.{scan}
@@ -28,11 +28,6 @@ use Rattle.fast_color_functions.specs.Told.{toldColor}
 use Rattle.fast_color_functions.specs.Brackets.{rgbNumbers}
 use Rattle.fast_color_functions.proofs.Numbers.{anew}
 
-first-byte : (x : ℕ) (xs l : List ℕ) → startsWith (x ∷ xs) l ≡ true → getD l 0 0 ≡ x
-unfolding startsWith
-first-byte x xs [] e = let z : _≡_ {A = ℕ} 0 1 = cc in absurd (omega arith)
-first-byte x xs (y ∷ ys) e = eqb-true y x (and-first (eqb y x) (startsWith xs ys) e)
-
 -- x and xs are the bytes of `rgb` or `rgba`, and i is where spaces have been skipped to
 opened : (s : List ℕ) (at : ℕ) {i : ℕ} (x : ℕ) (xs : List ℕ) → i ≡ scan isSpace s at → isWord (x ∷ xs) ≡ true → isRgb (x ∷ xs) ≡ true → eqb x 35 ≡ false
     → startsWith (bracketed (x ∷ xs)) (drop i s) ≡ true → parseColor s at ≡ rgbNumbers s (i + suc (length (x ∷ xs)))
@@ -41,7 +36,7 @@ opened s at {i} x xs q h r f e =
     let w = x ∷ xs in
     let o = opens w (drop i s) h e in
     let l : leb (length s) i ≡ false = lt-leb (length s) i (omega (arith, word-before w s i o)) in
-    let b : getD s i 0 ≡ x = rw (getD-drop, add-zero) at (first-byte x (bracketed xs) (drop i s) e) in
+    let b : getD s i 0 ≡ x = rw (getD-drop, add-zero) at (starts-first x (bracketed xs) (drop i s) e) in
     let z : i + suc (length w) ≡ i + length w + 1 = omega arith in
     simp (← q, l, b, f, word-ends w s i o, word-bytes w s i o, r, word-opened w s i o, z)
 

@@ -5,7 +5,7 @@ use mathlib.Core.List.{List, [], _∷_, _++_}
 use mathlib.Core.Path.{_≡_, refl, sym, _∙_}
 use native.Mathlib.Nat.{add-zero}
 use native.Mathlib.Omega.{arith}
-use borrow.Author.Tests.{eqb-true, eq-eqb, lt-leb, not-true, le-leb}
+use borrow.Author.Tests.{eq-eqb, lt-leb, not-true, le-leb}
 use lib.Dec.{ltb, eqb}
 use lib.ListN.{length, getD, drop}
 use lib.Seq.{getD-drop, paste}
@@ -22,7 +22,7 @@ use Rattle.bytes.proofs.Ranges.{and-first, and-second, either}
 use Rattle.stream.proofs.Opening.{bracketed, isWord, opens, word-ends, word-bytes, word-unspaced, word-opened}
 use Rattle.stream.proofs.Sames.{curr-consumed}
 use Rattle.bytes.proofs.Scans.{scan-here, scan-start, scan-end}
-use Rattle.bytes.proofs.Wording.{word-inside, curr-there, curr-inside, curr-byte}
+use Rattle.bytes.proofs.Wording.{starts-first, word-inside, curr-there, curr-inside, curr-byte}
 use Rattle.filter_functions.specs.Filters.{filterName, argumentOf, parseArgument, closeBracket, parseNext, parseStep, stepOf, nextFilter}
 use Rattle.filter_functions.specs.declared.FilterRead.the-variants as F
 use Rattle.filter_functions.specs.declared.FilterStep.{FilterStep}
@@ -36,11 +36,6 @@ use Rattle.filter_functions.specs.Paper.{paperStep}
 use lib.Ieee.{toBits, ofBits}
 
 -- the first byte of a word that stands at a place
-starts-first : (w : ℕ) (ws l : List ℕ) → startsWith (w ∷ ws) l ≡ true → getD l 0 0 ≡ w
-unfolding startsWith
-starts-first w ws [] e = let z : _≡_ {A = ℕ} 0 1 = cc in absurd (omega arith)
-starts-first w ws (x ∷ xs) e = eqb-true x w (and-first (eqb x w) _ e)
-
 module _ (w : ℕ) (ws s : List ℕ) (i : ℕ) (e : startsWith (w ∷ ws) (drop i s) ≡ true) where
   starts-byte : getD s i 0 ≡ w
   starts-byte = simp (getD-drop, add-zero) at (starts-first w ws (drop i s) e)

@@ -29,7 +29,7 @@ use Rattle.bytes.proofs.Ranges.{and-first, and-second, either, lt-or-le}
 use Rattle.bytes.proofs.Parts.{rest-part, byte-inside}
 use Rattle.stream.proofs.Sames.{curr-consumed}
 use Rattle.bytes.proofs.Scans.{from-scan, run-inside, scan-here}
-use Rattle.bytes.proofs.Wording.{same-eq, curr-inside, curr-byte, begins-with, space-ascii}
+use Rattle.bytes.proofs.Wording.{same-eq, curr-inside, curr-byte, begins-with, starts-first, space-ascii}
 use Rattle.color.specs.Answer as color
 use Rattle.color.specs.Color.{parseColorText}
 use Rattle.color.specs.Moves.{thenColor}
@@ -66,11 +66,6 @@ not-same : (s : List ℕ) (w : ℕ) (ws : List ℕ) → eqb (getD s 0 0) w ≡ f
 unfolding same
 not-same [] w ws e = refl
 not-same (x ∷ xs) w ws e = simp e
-
-starts-first : (w : ℕ) (ws s : List ℕ) → startsWith (w ∷ ws) s ≡ true → getD s 0 0 ≡ w
-unfolding startsWith
-starts-first w ws [] e = let z : _≡_ {A = ℕ} 0 1 = cc in absurd (omega arith)
-starts-first w ws (x ∷ xs) e = eqb-true x w (and-first (eqb x w) (startsWith ws xs) e)
 
 linked-first : (s : List ℕ) → startsWith (ascii "url(") s ≡ true → parsePaint s ≡ parseLinked s
 unfolding parsePaint
