@@ -84,19 +84,24 @@ module _ {o : List ℕ} (xs : List ℕ) where
   unfolding linkRecord
   link-value {p} h w l = rw h (whole xs (bareRefusal 0) 0 0 (p .start .0 ∷ p .len ∷ []) w l)
 
+-- a paint that is a word alone is told by its kind
+pub paint-word : {o : List ℕ} (xs : List ℕ) (n : ℕ) {v w : Paint} → v ≡ w → foundRow 0 (n ∷ []) ≡ paintRow w → o ≡ paste xs 0 (foundRow 0 (n ∷ [])) 24 → length xs ≡ 24
+    → o ≡ paintRow v
+paint-word xs n h k f l = rw h (whole xs (bareRefusal 0) 0 0 (n ∷ []) f l ∙ k)
+
 pub paint-value : {o : List ℕ} {a : PaintAnswer} {v : Paint} → a ≡ Q.Value v → o ≡ paintRow v → o ≡ paintRecord a
 unfolding paintRow paintRecord paints.paper
 paint-value h w = rw h w
 
 -- o is a row of one number, and p the same with a colour
-module _ {o p : List ℕ} {c : Color} where
-  pub color-value : {a : ColorAnswer} → a ≡ C.Value c → o ≡ foundRow 0 (0 ∷ []) → p ≡ paste o 9 (colorEntries c) 4 → p ≡ colorRecord a
+module _ {o p : List ℕ} {c : Color} (xs : List ℕ) where
+  pub color-value : {a : ColorAnswer} → a ≡ C.Value c → o ≡ paste xs 0 (foundRow 0 (0 ∷ [])) 24 → length xs ≡ 24 → p ≡ paste o 9 (colorEntries c) 4 → p ≡ colorRecord a
   unfolding row colorRecord
-  color-value h f g = rw (h, g, f)
+  color-value h f l g = rw (h, g, whole xs (bareRefusal 0) 0 0 (0 ∷ []) f l)
 
-  pub paint-color : {v : Paint} → v ≡ P.Color c → o ≡ foundRow 0 (6 ∷ []) → p ≡ paste o 13 (colorEntries c) 4 → p ≡ paintRow v
+  pub paint-color : {v : Paint} → v ≡ P.Color c → o ≡ paste xs 0 (foundRow 0 (6 ∷ [])) 24 → length xs ≡ 24 → p ≡ paste o 13 (colorEntries c) 4 → p ≡ paintRow v
   unfolding row paintRow
-  paint-color h f g = rw (h, g, f)
+  paint-color h f l g = rw (h, g, whole xs (bareRefusal 0) 0 0 (6 ∷ []) f l)
 
 -- a link with no fallback
 pub link-written : {o : List ℕ} (xs : List ℕ) (link : Part) → o ≡ paste xs 0 (foundRow 0 (7 ∷ link .start .0 ∷ link .len ∷ [])) 24 → length xs ≡ 24

@@ -5,7 +5,7 @@
 -- A result has at most twelve numbers; what a call does not use is 0.
 use Prim.Native.Nat.{ℕ}
 use mathlib.Core.Bool.{cond}
-use mathlib.Core.List.{List, [], _∷_}
+use mathlib.Core.List.{List, [], _∷_, _++_}
 use lib.Dec.{eqb}
 use lib.Ieee.{Float, binary64, toBits}
 use lib.ListN.{getD}
@@ -147,8 +147,7 @@ shadowColorEntries (H.Some c) = 1 ∷ colorEntries c
 -- a shadow: 10 and 11 dx as bits and unit, 12 and 13 dy, 14 and 15 the deviation; and its colour
 abbrev pub shadowEntries : Shadow → List ℕ
 shadowEntries d =
-    bitsOf (d .dx .number) ∷ lengthUnit (d .dx .unit) ∷ bitsOf (d .dy .number) ∷ lengthUnit (d .dy .unit)
-    ∷ bitsOf (d .deviation .number) ∷ lengthUnit (d .deviation .unit) ∷ shadowColorEntries (d .color)
+    lengthEntries (d .dx) ++ (lengthEntries (d .dy) ++ (lengthEntries (d .deviation) ++ shadowColorEntries (d .color)))
 
 -- a filter value: 9 its kind, then what is its own: of kind 1 a length, of 2 a shadow, of 6 an angle as bits and unit, of 11 a link, of any other its number by its bits
 abbrev pub filterEntries : filters.Result → List ℕ

@@ -1,9 +1,9 @@
 // The record of each answer but a list's step.
 ghost use mathlib.Core.Path.{_≡_};
-ghost use mathlib.Core.List.{[], _∷_};
+ghost use mathlib.Core.List.{[]};
 ghost use Rattle.paint.specs.declared.Paint.the-variants as Paint;
 ghost use Rattle.paint.specs.declared.PaintFallback.the-variants as PaintFallback;
-ghost use Rattle.records.specs.Records.{row, foundRow, colorRecord, lengthRecord, angleRecord, linkRecord, paintRow, paintRecord, inheritedRecord};
+ghost use Rattle.records.specs.Records.{row, colorRecord, lengthRecord, angleRecord, linkRecord, paintRow, paintRecord, inheritedRecord};
 use crate::entries;
 use crate::written;
 use angle::AngleAnswer;
@@ -24,20 +24,13 @@ pub fn refused(out: &mut [u64; 24], e: Refusal)
     written::refused(out, 0, e, 0, Place(0));
 }
 
-// A result of one number, such as a paint's kind; of 0, a record of zeros.
-fn kind(out: &mut [u64; 24], n: u64)
-    ensures { λ _. ⌜ now (out .exit) ≡ foundRow 0 (n ∷ []) ⌝ }
-{
-    written::one(out, 0, Place(0), n);
-}
-
 pub fn write_color(out: &mut [u64; 24], answer: ColorAnswer)
     ensures { λ _. ⌜ now (out .exit) ≡ colorRecord answer ⌝ }
 {
     match answer {
         ColorAnswer::Refused(e) => refused(out, e),
         ColorAnswer::Value(c) => {
-            kind(out, 0);
+            written::one(out, 0, Place(0), 0);
             written::color(out, 9, c);
         }
     }
@@ -98,33 +91,27 @@ fn fallback(out: &mut [u64; 24], link: Part, f: PaintFallback)
     }
 }
 
-fn write_paint_value(out: &mut [u64; 24], paint: Paint)
-    ensures { λ _. ⌜ now (out .exit) ≡ paintRow paint ⌝ }
-{
-    match paint {
-        Paint::None => kind(out, 1),
-        Paint::Inherit => kind(out, 2),
-        Paint::CurrentColor => kind(out, 3),
-        Paint::ContextFill => kind(out, 4),
-        Paint::ContextStroke => kind(out, 5),
-        Paint::Color(c) => {
-            kind(out, 6);
-            written::color(out, 13, c);
-        }
-        Paint::FuncIRI(link, f) => {
-            let start = link.start;
-            written::three(out, 0, Place(0), 7, start.0 as u64, link.len as u64);
-            fallback(out, link, f);
-        }
-    }
-}
-
 pub fn write_paint(out: &mut [u64; 24], answer: PaintAnswer)
     ensures { λ _. ⌜ now (out .exit) ≡ paintRecord answer ⌝ }
 {
     match answer {
         PaintAnswer::Refused(e) => refused(out, e),
-        PaintAnswer::Value(paint) => write_paint_value(out, paint),
+        PaintAnswer::Value(paint) => match paint {
+            Paint::None => written::one(out, 0, Place(0), 1),
+            Paint::Inherit => written::one(out, 0, Place(0), 2),
+            Paint::CurrentColor => written::one(out, 0, Place(0), 3),
+            Paint::ContextFill => written::one(out, 0, Place(0), 4),
+            Paint::ContextStroke => written::one(out, 0, Place(0), 5),
+            Paint::Color(c) => {
+                written::one(out, 0, Place(0), 6);
+                written::color(out, 13, c);
+            }
+            Paint::FuncIRI(link, f) => {
+                let start = link.start;
+                written::three(out, 0, Place(0), 7, start.0 as u64, link.len as u64);
+                fallback(out, link, f);
+            }
+        },
     }
 }
 
