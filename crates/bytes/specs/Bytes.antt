@@ -25,7 +25,7 @@ isLower b = within 97 122 b
 
 -- 0 to 9, A to F, a to f
 abbrev pub isHexDigit : ℕ → Bool
-isHexDigit b = within 48 57 b || (within 65 70 b || within 97 102 b)
+isHexDigit b = isDigit b || (within 65 70 b || within 97 102 b)
 
 -- "Spaces are the four bytes space, tab, line feed, return"
 abbrev pub isSpace : ℕ → Bool
