@@ -1,7 +1,7 @@
 -- The marked examples, and those of wrong answers, computed from the definitions.
 use mathlib.Core.Path.{refl}
 use lib.Ieee.{ofBits, ofInt, lt, le, eq, add, sub, mul, div, rem, neg}
-use Rattle.utf8.specs.Blanks.{blank1, blank2, blank3, blankLen, blankAt, byteBefore, blankEnd, blankBefore, front, trimStart, back, trimEnd, trimOf}
+use Rattle.utf8.specs.Blanks.{blank1, blank2, blank3, blankLen, blankAt, byteBefore, blankEnd, blankBefore, front, trimStart, back, trimEnd, trimPart, trimOf}
 use Rattle.bytes.specs.Bytes.{within}
 use Rattle.utf8.specs.Characters.{keeps, rowOf, lenAt, charLen, walk, utf8Of, firsts, count, calcCharPosAt, onCharacter}
 use Rattle.stream.specs.Faults.{consumeByte, consumeString, parseListSeparator}
@@ -22,7 +22,7 @@ use Rattle.color.specs.Answer as colors
 use Rattle.color.specs.Hex.{fromHex, shortHex, hexPair, shortColor, longColor, parseHex}
 use Rattle.color.specs.Hsl.{hueToRgb, hslToRgb, hslColor}
 use Rattle.color.specs.Color.{afterNumber, closeBracket, parseAlpha, rgbMarked, rgbPlain, rgbRest, parseRgb, hslRest, parseHsl, isRgb, isHsl, namedColor, parseWord, parseColor, parseColorText}
-use Rattle.funciri.specs.Link.{hasQuote, isLink, closeLink, closeQuote, quotedLink, plainLink, parseFuncIri}
+use Rattle.funciri.specs.Link.{hasQuote, isLink, closeLink, closeQuote, quotedLink, plainLink, parseIri, parseFuncIri}
 use Rattle.paint.specs.Answers as paints
 use Rattle.paint.specs.Moves.{linkStart, movePaint}
 use Rattle.paint.specs.Reading.{parsePaint, parseLinked, parseFallback, parsePlain}
@@ -30,7 +30,7 @@ use Rattle.filter_functions.specs.Filters as filters
 use Rattle.filter_functions.specs.Filters.{nextFilter, stepOf, parseStep, afterNone, parseNext, parseArgument, filterName, plainName}
 use Rattle.filter_functions.specs.Values.{isPercent, parseFilterLength, parseFilterPositiveLength, parseFilterAngle, parseBlur, parseHueRotate}
 use Rattle.filter_functions.specs.Shadow.{tryParseColor, parseDeviation, parseShadowLengths, shadowBefore, shadowAfter, parseDropShadowFunc}
-use Rattle.funciri.specs.Answers.{wholeLink, funcIriFromStr}
+use Rattle.funciri.specs.Answers.{wholeLink, iriFromStr, funcIriFromStr}
 use Rattle.examples.specs.Examples.{Examples}
 use Rattle.examples.specs.Shut.{Shut}
 
@@ -55,5 +55,5 @@ examples =
     }
 
 pub shut : Shut
-unfolding colors.fromStr hasQuote isLink closeLink closeQuote quotedLink plainLink parseFuncIri paints.fromStr lengths.fromStr nextFilter stepOf admitPlace onCharacter admitText admitUtf8 utf8Of walk charLen lenAt rowOf keeps within refusalOf numberOf isOutsideDomain calcCharPosAt count firsts trimOf trimStart front trimEnd back blankAt blankLen blankBefore blankEnd byteBefore blank1 blank2 blank3 parsePaint parseLinked parseFallback parsePlain movePaint linkStart parseWhole parseLength unitAt unitRest unitWidth parseUnit parseStep afterNone parseNext parseArgument filterName plainName filters.closeBracket isPercent parseFilterLength parseFilterPositiveLength parseFilterAngle parseBlur parseHueRotate tryParseColor parseDeviation parseShadowLengths shadowBefore shadowAfter parseDropShadowFunc parseColorText parseColor parseHex longColor shortColor hexPair shortHex fromHex parseWord part same startsWith lowerOf isRgb isHsl namedColor namedOf lookUp keywords parseRgb parseHsl hslRest rgbRest rgbMarked rgbPlain afterNumber parseAlpha closeBracket consumeByte consumeString hslColor hslToRgb hueToRgb narrowed channelOf parseNumber parseNumberOrPercent parseListNumber parseListNumberOrPercent afterItem parseListSeparator numberFrom finished scaled valueOf scaleOf exponentAt exponentFrom mantissaAt mantissaDot afterSign value scan run bind isCurrByteEq powerOf powerBits mul div add sub rem neg lt le eq ofInt ofBits funcIriFromStr wholeLink
-shut = record { alpha = refl; hue = refl; quoted = refl; stray = refl; trimmed = refl; painted = refl; shaded = refl }
+unfolding colors.fromStr hasQuote isLink closeLink closeQuote quotedLink plainLink parseIri parseFuncIri iriFromStr paints.fromStr paints.inheritedOf paints.isInherit trimPart lengths.fromStr nextFilter stepOf admitPlace onCharacter admitText admitUtf8 utf8Of walk charLen lenAt rowOf keeps within refusalOf numberOf isOutsideDomain calcCharPosAt count firsts trimOf trimStart front trimEnd back blankAt blankLen blankBefore blankEnd byteBefore blank1 blank2 blank3 parsePaint parseLinked parseFallback parsePlain movePaint linkStart parseWhole parseLength unitAt unitRest unitWidth parseUnit parseStep afterNone parseNext parseArgument filterName plainName filters.closeBracket isPercent parseFilterLength parseFilterPositiveLength parseFilterAngle parseBlur parseHueRotate tryParseColor parseDeviation parseShadowLengths shadowBefore shadowAfter parseDropShadowFunc parseColorText parseColor parseHex longColor shortColor hexPair shortHex fromHex parseWord part same startsWith lowerOf isRgb isHsl namedColor namedOf lookUp keywords parseRgb parseHsl hslRest rgbRest rgbMarked rgbPlain afterNumber parseAlpha closeBracket consumeByte consumeString hslColor hslToRgb hueToRgb narrowed channelOf parseNumber parseNumberOrPercent parseListNumber parseListNumberOrPercent afterItem parseListSeparator numberFrom finished scaled valueOf scaleOf exponentAt exponentFrom mantissaAt mantissaDot afterSign value scan run bind isCurrByteEq powerOf powerBits mul div add sub rem neg lt le eq ofInt ofBits funcIriFromStr wholeLink
+shut = record { alpha = refl; hue = refl; bracket = refl; quoted = refl; stray = refl; trimmed = refl; moved = refl; inherits = refl; current = refl; whose = refl; painted = refl; shaded = refl }

@@ -5,12 +5,15 @@ use Rattle.bytes.specs.Words.{ascii}
 use Rattle.color.specs.Answer as colors
 use Rattle.color.specs.Color.{rgba}
 use Rattle.color.specs.declared.ColorAnswer.the-variants as C
-use Rattle.funciri.specs.Answers.{funcIriFromStr}
+use Rattle.funciri.specs.Answers.{iriFromStr, funcIriFromStr}
 use Rattle.funciri.specs.Link.{linkAt}
 use Rattle.funciri.specs.declared.LinkAnswer.the-variants as K
 use Rattle.paint.specs.Answers as paints
+use Rattle.paint.specs.declared.Inheritance.the-variants as I
 use Rattle.paint.specs.declared.Paint.the-variants as W
 use Rattle.paint.specs.declared.PaintAnswer.the-variants as P
+use Rattle.paint.specs.declared.PaintFallback.the-variants as B
+use Rattle.paint.specs.declared.Whose.the-variants as O
 use Rattle.filter_functions.specs.Filters.{nextFilter}
 use Rattle.filter_functions.specs.declared.FilterStep.the-variants as F
 use Rattle.examples.specs.Examples.{refusal}
@@ -20,12 +23,22 @@ pub record Shut : Type 0 where
   pub alpha : colors.fromStr (ascii "rgba(0,0,0,0.5)") ≡ C.Value (rgba 0 0 0 128)
   -- a hue is turned by 360 degrees, and not by 180
   pub hue : colors.fromStr (ascii "hsl(120,100%,50%)") ≡ C.Value (rgba 0 255 0 255)
+  -- a link of `#` alone goes on past a bracket
+  pub bracket : iriFromStr (ascii "#a)") ≡ K.Link (linkAt (place 1) 2)
   -- a quoted link starts after its `#`
   pub quoted : funcIriFromStr (ascii "url('#a')") ≡ K.Link (linkAt (place 6) 1)
   -- a quote inside a link is refused
   pub stray : funcIriFromStr (ascii "url(#a'b)") ≡ K.Refused (refusal 5 0 0 0)
   -- a paint is read without the white space at its ends
   pub trimmed : paints.fromStr (ascii " red ") ≡ P.Value (W.Color (rgba 255 0 0 255))
+  -- a link's place counts from the lent text, and not from the trimmed one
+  pub moved : paints.fromStr (ascii " url(#a)") ≡ P.Value (W.FuncIRI (linkAt (place 6) 1) B.Absent)
+  -- the parent's text is chosen for `inherit`,
+  pub inherits : paints.inheritedOf (ascii "inherit") (ascii "red") ≡ I.Chosen O.Parent (linkAt (place 0) 3)
+  -- and for no other word
+  pub current : paints.inheritedOf (ascii "currentColor") (ascii "red") ≡ I.Chosen O.Own (linkAt (place 0) 12)
+  -- a refusal of the parent's text is told as the parent's
+  pub whose : paints.inheritedOf (ascii "inherit") (ascii "x") ≡ I.Refused O.Parent (refusal 5 0 0 0)
   -- a number outside the domain is not swallowed by a paint
   pub painted : paints.fromStr (ascii "rgb(1e23,0,0)") ≡ P.Refused (refusal 10 5 0 0)
   -- nor by a shadow, in its colour
