@@ -4,9 +4,9 @@ use mathlib.Core.Bool.{Bool, true, false}
 use mathlib.Core.List.{List, [], _∷_}
 use mathlib.Core.Path.{_≡_, refl, sym, ap, _∙_}
 use native.Mathlib.Omega.{arith}
-use borrow.Author.Tests.{eqb-true}
-use lib.Dec.{eqb}
-use lib.ListN.{length, getD, take, drop}
+use borrow.Author.Tests.{eqb-true, leb-true}
+use lib.Dec.{eqb, leb}
+use lib.ListN.{length, getD, take, drop, length-map}
 use Rattle.bytes.specs.Bytes.{within}
 use Rattle.bytes.specs.Scan.{scan}
 use Rattle.bytes.specs.Words.{ascii, same, lowerOf, lowered}
@@ -16,12 +16,9 @@ use Rattle.bytes.proofs.Wording.{same-refl, same-eq}
 use Rattle.names.specs.Keywords.{Keyword, entry, keywords}
 use Rattle.names.specs.Look.{lookUp, namedOf}
 use Rattle.names.specs.Search.{nth}
-use Rattle.names.specs.declared.Named.{Named}
 use Rattle.names.specs.declared.Named.the-variants as N
-use Rattle.names.specs.declared.Rgb.{Rgb}
 use Rattle.names.proofs.Tables.{holds-true, table-count}
-use Rattle.color.specs.Color.{rgba}
-use Rattle.packed.specs.Numbers.{noColor, colorNumber}
+use Rattle.packed.specs.Numbers.{noColor}
 use Rattle.fast_names.specs.Letters.{isSmall}
 use Rattle.fast_names.specs.Named.{namedNumber}
 use Rattle.fast_names.proofs.Bounds.{written-unnamed}
@@ -81,23 +78,15 @@ module _ (w : List ℕ) {r : ℕ} (p : r ≡ namedNumber (lookUp keywords (take 
       let u : lookUp keywords w ≡ N.Unknown = written-unnamed w (omega (arith, seen)) in
       ap namedNumber (sym (named-lowered w k ∙ u))
 
-pub ruleset written = (written-found, written-none)
+-- a word that is longer than every name
+table-short : (k : ℕ) → k < 147 → length (nth k .name) ≤ 20
+unfolding keywords
+table-short k h = leb-true _ 20 (sym (holds-true _ (across (λ j. leb (length (nth j .name)) 20) 0 147 tt k (omega arith) (omega arith))))
 
--- what the table tells, as one number
-module _ (w : List ℕ) {m : Named} (t : m ≡ namedOf (take (length w - 0) (drop 0 w))) where
-  p : m ≡ namedOf w
-  p = rw rest-part at t
+pub written-long : (w : List ℕ) → 20 < length w → noColor ≡ namedNumber (namedOf w)
+unfolding namedNumber namedOf
+written-long w h =
+    let n : length (lowered w) ≡ length w = length-map w lowerOf in
+    simp (look-unknown (lowered w) (λ k l e. omega (arith, table-short k l, ap length e)) (λ e. omega (arith, ap length e)))
 
-  pub numbers-keyword : {c : Rgb} {v : ℕ} → m ≡ N.Keyword c → v ≡ colorNumber (rgba (c .red) (c .green) (c .blue) 255) → v ≡ namedNumber (namedOf w)
-  unfolding namedNumber
-  numbers-keyword e h = rw (sym p ∙ e) h
-
-  pub numbers-transparent : m ≡ N.Transparent → 0 ≡ namedNumber (namedOf w)
-  unfolding namedNumber colorNumber
-  numbers-transparent e = rw (sym p ∙ e) refl
-
-  pub numbers-unknown : m ≡ N.Unknown → noColor ≡ namedNumber (namedOf w)
-  unfolding namedNumber
-  numbers-unknown e = rw (sym p ∙ e) refl
-
-pub ruleset numbers = (numbers-keyword, numbers-transparent, numbers-unknown)
+pub ruleset written = (written-found, written-none, written-long)

@@ -1,4 +1,4 @@
-use Rattle.fast_names.proofs.Written.{written, numbers}
+use Rattle.fast_names.proofs.Written.{written}
 use borrow.Author.Needs.{needs}
 use Rattle.fast_names.proofs.from_str.Statement.{statement}
 use Rattle.fast_names.proofs.from_str.Tie as tie
@@ -7,21 +7,13 @@ pub from-str-spec : {M : Type 1} → statement M
 from-str-spec =
     tie.close
     (tie.spec
-    (λ c. search needs)
-    (λ c. search needs)
-    (λ c. search needs)
-    (λ c κs. search needs)
-    (λ c. search (written, numbers, needs))
-    (λ c κs. search needs)
-    (λ c. search (written, numbers, needs))
-    (λ c. search needs)
-    (λ c. search needs)
-    (λ c. search needs)
-    (λ c κs. search needs)
-    (λ c. search needs)
-    (λ c κs. search needs)
-    (λ c. search needs)
-    (λ c. search needs)
-    (λ c. search (written, numbers, needs))
-    (λ c. search (written, numbers, needs))
-    (λ c. search (written, numbers, needs)))
+    (λ c. search (written, needs))
+    (λ c. search (written, needs))
+    (λ c. search (written, needs))
+    (λ c. search (written, needs))
+    (λ c κs. search (written, needs))
+    (λ c. search (written, needs))
+    (λ c κs. search (written, needs))
+    (λ c. search (written, needs))
+    (λ c κs. search (written, needs))
+    (λ c. search (written, needs)))
