@@ -104,18 +104,14 @@ module _ (w s : List ℕ) (at n e : ℕ) (v : FilterValue) (name : isName w ≡ 
     pub written-if : {r : Bool} → r ≡ ltb 0 next → p ≡ cond r (paste o k (filterRow next v) 24) o → p ≡ writtenIf r o k s at
     written-if {r} b f = either r (λ t. rw t (written (sym b ∙ t) (rw t at f))) (λ t. rw t (rw t at f))
 
--- the entries p after a try, and q after another
+-- the entries p after a try
 pub try-kept : {A : Type 0} {p : A} (x o : A) {r : Bool} → r ≡ false → p ≡ cond r x o → p ≡ o
 try-kept x o e f = rw e at f
 
-module _ (o : List ℕ) (k : ℕ) (s : List ℕ) (i : ℕ) {p : List ℕ} where
-  pub try-told : {r : Bool} → r ≡ true → p ≡ writtenIf r o k s i → p ≡ writtenIf true o k s i
-  try-told e f = rw e at f
+pub try-told : (o : List ℕ) (k : ℕ) (s : List ℕ) (i : ℕ) {p : List ℕ} {r : Bool} → r ≡ true → p ≡ writtenIf r o k s i → p ≡ writtenIf true o k s i
+try-told o k s i e f = rw e at f
 
-  pub try-again : (u : Bool) {q : List ℕ} → q ≡ writtenIf u p k s i → p ≡ o → q ≡ writtenIf u o k s i
-  try-again u h e = rw e at h
-
-pub ruleset tries = (try-kept, try-told, try-again)
+pub ruleset tries = (try-kept, try-told)
 
 -- nothing is left: the list's end
 ends : (s : List ℕ) (i : ℕ) → length s ≤ i → stepOf s i ≡ O.End (place (length s))

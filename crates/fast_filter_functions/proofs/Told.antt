@@ -222,21 +222,25 @@ plain-read s name i f n q h g = go (parseNumberOrPercent s i) refl
         let t = percent-known s j m p r in
         rw d (simp (unclosed s j (p .0) (t .passes) (omega (arith, t .least)), r, rw d at g))
 
--- a plain function, of the word and bracket w: a number that is not negative
-module _ (s : List ℕ) (at : ℕ) (f : Plain) {w : List ℕ} (d : w ≡ opened f) {r : Bool} (e : r ≡ true) (b : r ≡ startsWith w (drop at s)) where
-  pub plain-fits : length s ≤ 4096 → Fits w64 (at + length w)
-  plain-fits l = go w (rw d (rw (length-append (plainWord f) (40 ∷ [])) (omega arith))) (sym b ∙ e)
+-- a plain function, whose name and bracket are b bytes: a number that is not negative
+module _ (s : List ℕ) (at : ℕ) (f : Plain) {b : ℕ} (d : b ≡ length (opened f)) (e : startsWith (opened f) (drop at s) ≡ true) where
+  pub plain-fits : length s ≤ 4096 → Fits w64 (at + b)
+  plain-fits l = rw d (go (opened f) (rw (length-append (plainWord f) (40 ∷ [])) (omega arith)) e)
     where
       go : (u : List ℕ) → 0 < length u → startsWith u (drop at s) ≡ true → Fits w64 (at + length u)
       go [] z g = absurd (omega arith)
       go (x ∷ xs) z g = omega (arith, word-inside x xs s at true refl (sym g))
 
-  pub plain-told : (n : ToldNumber) {t : Bool} (o : List ℕ) (k : ℕ) {p : List ℕ} {next m u : ℕ} → n ≡ toldNumber (parseNumberOrPercent s (at + length w)) → next ≡ afterBracket s (n .end .0) → t ≡ signOf (n .value)
+  pub plain-told : (n : ToldNumber) {t : Bool} (o : List ℕ) (k : ℕ) {p : List ℕ} {next m u : ℕ} → n ≡ toldNumber (parseNumberOrPercent s (at + b)) → next ≡ afterBracket s (n .end .0) → t ≡ signOf (n .value)
       → (ltb 0 (n .end .0) && (ltb 0 next && not t)) ≡ true → m ≡ plainNumber f → u ≡ bitsOf (n .value) → p ≡ paste o k (foundRow next (m ∷ u ∷ [])) 24 → p ≡ writtenIf true o k s at
   plain-told n {t} o k {next = next} q c g h x y z =
       let rest : (ltb 0 next && not t) ≡ true = and-second (ltb 0 (n .end .0)) _ h in
-      let read = plain-read s at (at + length w) f n q (ltb-true 0 (n .end .0) (and-first (ltb 0 (n .end .0)) _ h)) (sym g ∙ not-true t (and-second (ltb 0 next) _ rest)) in
-      written (plainWord f) s at (length w) (n .end .0) (plainValue f (n .value)) (plain-word f) (rw d at (sym b ∙ e)) (rw d (length-append (plainWord f) (40 ∷ [])))
+      let read = plain-read s at (at + b) f n q (ltb-true 0 (n .end .0) (and-first (ltb 0 (n .end .0)) _ h)) (sym g ∙ not-true t (and-second (ltb 0 next) _ rest)) in
+      written (plainWord f) s at b (n .end .0) (plainValue f (n .value)) (plain-word f) e (d ∙ length-append (plainWord f) (40 ∷ []))
       (λ v. plain-argument f s at _ ∙ read) o k c (and-first (ltb 0 next) _ rest) (rw (plain-row next f (n .value), ← x, ← y) z)
 
 pub ruleset plains = (plain-fits, plain-told)
+
+-- a word stands there, as the flag r told
+pub word-there : (w l : List ℕ) {r : Bool} → r ≡ true → r ≡ startsWith w l → startsWith w l ≡ true
+word-there w l e q = sym q ∙ e

@@ -89,21 +89,41 @@ fn step_told(out: &mut [u64], k: usize, text: &[u8], at: Place) -> bool
         b'd' => shadow_told(out, k, text, at),
         b'h' => degrees_told(out, k, text, at),
         b'b' => {
-            if blur_told(out, k, text, at) {
-                return true;
+            if bytes::starts_with(text, at, b"brightness(") {
+                return plain_told(out, k, text, at, 11, Plain::Brightness);
             }
-            plain_told(out, k, text, at, b"brightness(", Plain::Brightness)
+            blur_told(out, k, text, at)
         }
-        b'c' => plain_told(out, k, text, at, b"contrast(", Plain::Contrast),
-        b'g' => plain_told(out, k, text, at, b"grayscale(", Plain::Grayscale),
-        b'i' => plain_told(out, k, text, at, b"invert(", Plain::Invert),
-        b'o' => plain_told(out, k, text, at, b"opacity(", Plain::Opacity),
         b's' => {
-            if plain_told(out, k, text, at, b"sepia(", Plain::Sepia) {
-                return true;
+            if bytes::starts_with(text, at, b"sepia(") {
+                return plain_told(out, k, text, at, 6, Plain::Sepia);
             }
-            plain_told(out, k, text, at, b"saturate(", Plain::Saturate)
+            if bytes::starts_with(text, at, b"saturate(") {
+                return plain_told(out, k, text, at, 9, Plain::Saturate);
+            }
+            false
         }
-        _ => false,
+        _ => plain_step_told(out, k, text, at),
     }
+}
+
+// The same of the plain functions that alone begin with their first byte.
+fn plain_step_told(out: &mut [u64], k: usize, text: &[u8], at: Place) -> bool
+    requires { ⌜ length (now text) ≤ 4096 ⌝ }
+    requires { ⌜ k + 24 ≤ length (now out) ⌝ }
+    ensures { λ r. ⌜ now (out .exit) ≡ writtenIf r (now (out .entry)) k (now (text .entry)) (at .0) ⌝ }
+{
+    if bytes::starts_with(text, at, b"contrast(") {
+        return plain_told(out, k, text, at, 9, Plain::Contrast);
+    }
+    if bytes::starts_with(text, at, b"grayscale(") {
+        return plain_told(out, k, text, at, 10, Plain::Grayscale);
+    }
+    if bytes::starts_with(text, at, b"invert(") {
+        return plain_told(out, k, text, at, 7, Plain::Invert);
+    }
+    if bytes::starts_with(text, at, b"opacity(") {
+        return plain_told(out, k, text, at, 8, Plain::Opacity);
+    }
+    false
 }

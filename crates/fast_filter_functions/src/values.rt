@@ -1,8 +1,10 @@
 // Filter values that are told at once, a shadow's apart: a name with its bracket, what it holds, and the closing bracket directly after that.
 // Each function says whether it wrote a record; if not, nothing was touched.
+ghost use mathlib.Core.Bool.{true};
 ghost use mathlib.Core.Path.{_≡_};
 ghost use Prim.Native.Nat.{_+_, _≤_};
-ghost use lib.ListN.{length};
+ghost use lib.ListN.{length, drop};
+ghost use Rattle.bytes.specs.Words.{startsWith};
 ghost use Rattle.numbers.specs.Number.{parseNumberOrPercent};
 ghost use Rattle.fast_numbers.specs.Told.{toldNumber};
 ghost use Rattle.fast_filter_functions.specs.Told.{writtenIf, afterBracket, isOffset, isRadius, opened};
@@ -113,29 +115,29 @@ fn number_or_percent(text: &[u8], at: Place) -> ToldNumber
     n
 }
 
-// One of the seven plain functions, with its number.
+// One of the seven plain functions, with its number: its name and bracket, `by` bytes, stand there. The caller looks for
+// them, since a word that is a constant there is compared by several bytes at once.
 pub fn plain_told(
     out: &mut [u64],
     k: usize,
     text: &[u8],
     at: Place,
-    word: &[u8],
+    by: usize,
     plain: Plain,
 ) -> bool
     requires { ⌜ length (now text) ≤ 4096 ⌝ }
     requires { ⌜ k + 24 ≤ length (now out) ⌝ }
-    requires { ⌜ now word ≡ opened plain ⌝ }
+    requires { ⌜ startsWith (opened plain) (drop (at .0) (now text)) ≡ true ⌝ }
+    requires { ⌜ by ≡ length (opened plain) ⌝ }
     ensures { λ r. ⌜ now (out .exit) ≡ writtenIf r (now (out .entry)) k (now (text .entry)) (at .0) ⌝ }
 {
-    if bytes::starts_with(text, at, word) {
-        let i = at.0;
-        let n = number_or_percent(text, Place(i + word.len()));
-        let next = after_bracket(text, n.end);
-        if (0 < n.end.0) & ((0 < next.0) & !floats::is_sign_negative(n.value)) {
-            let kind = records::plain_number(plain);
-            written::two(out, k, next, kind, records::bits_of(n.value));
-            return true;
-        }
+    let i = at.0;
+    let n = number_or_percent(text, Place(i + by));
+    let next = after_bracket(text, n.end);
+    if (0 < n.end.0) & ((0 < next.0) & !floats::is_sign_negative(n.value)) {
+        let kind = records::plain_number(plain);
+        written::two(out, k, next, kind, records::bits_of(n.value));
+        return true;
     }
     false
 }

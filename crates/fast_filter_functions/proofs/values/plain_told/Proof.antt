@@ -7,7 +7,6 @@ pub plain-told-spec : {M : Type 1} → statement M
 plain-told-spec =
     tie.close
     (tie.spec
-    (λ c κs. search needs)
     (λ c. search (plains, needs))
     (λ c κs. search needs)
     (λ c κs. search needs)
@@ -17,5 +16,4 @@ plain-told-spec =
     (λ c κs. search needs)
     (λ c. search needs)
     (λ c. search (plains, needs))
-    (λ c. search needs)
     (λ c. search needs))
