@@ -116,13 +116,13 @@ fn parse_word(text: &[u8], at: Place) -> ColorRead
     named_color(&text[from..to], end)
 }
 
-fn is_rgb(word: &[u8]) -> bool
+pub fn is_rgb(word: &[u8]) -> bool
     ensures { λ r. ⌜ r ≡ isRgb (now (word .entry)) ⌝ }
 {
     bytes::equals_lowered(word, b"rgb") | bytes::equals_lowered(word, b"rgba")
 }
 
-fn is_hsl(word: &[u8]) -> bool
+pub fn is_hsl(word: &[u8]) -> bool
     ensures { λ r. ⌜ r ≡ isHsl (now (word .entry)) ⌝ }
 {
     bytes::equals_lowered(word, b"hsl") | bytes::equals_lowered(word, b"hsla")
@@ -369,7 +369,7 @@ fn long_color(text: &[u8], at: Place, alpha: u8) -> Color
 }
 
 // Hue, saturation and lightness as they were read, rounded to `f32`s.
-fn hsl_color(h: f64, s: f64, l: f64) -> Color
+pub fn hsl_color(h: f64, s: f64, l: f64) -> Color
     ensures { λ r. ⌜ r ≡ hslColor h s l ⌝ }
 {
     let turned = ((h % 360.0) + 360.0) % 360.0;

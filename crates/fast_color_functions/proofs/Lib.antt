@@ -1,4 +1,5 @@
 pub mod Numbers
 pub mod Tellings
 pub mod Openings
+pub mod WholeNumbers
 pub mod Told

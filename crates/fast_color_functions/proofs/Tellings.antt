@@ -6,6 +6,7 @@ use mathlib.Core.Path.{_≡_, refl, sym, ap, _∙_}
 use native.Mathlib.Omega.{arith}
 use borrow.Author.Tests.{lt-leb, leb-false}
 use lib.Dec.{eqb, leb}
+use lib.Ieee.{Float}
 use lib.ListN.{length, getD}
 use Rattle.bytes.specs.Moves.{place}
 use Rattle.bytes.specs.Bytes.{isSpace}
@@ -14,14 +15,17 @@ use Rattle.bytes.specs.Flow.{bind}
 use Rattle.bytes.specs.Scan.{scan}
 use Rattle.bytes.specs.Words.{isCurrByteEq}
 use Rattle.bytes.specs.declared.Place.{Place}
+use Rattle.bytes.proofs.Parts.{rest-part}
 use Rattle.bytes.proofs.Ranges.{either}
 use Rattle.bytes.proofs.Scans.{scan-here}
 use Rattle.bytes.proofs.Wording.{curr-there, curr-inside, curr-byte}
 use Rattle.numbers.specs.Moves.{thenNumber}
+use Rattle.numbers.specs.Number.{parseListNumber, parseListNumberOrPercent}
 use Rattle.numbers.specs.declared.Number.{Number}
 use Rattle.numbers.specs.declared.NumberRead.{NumberRead}
 use Rattle.numbers.specs.declared.NumberRead.the-variants as N
-use Rattle.color.specs.Color.{closeBracket}
+use Rattle.color.specs.Color.{rgba, closeBracket, parseAlpha}
+use Rattle.color.specs.Hsl.{hslToRgb, hslColor}
 use Rattle.color.specs.declared.Color.{Color}
 use Rattle.color.specs.declared.ColorRead.{ColorRead}
 use Rattle.color.specs.declared.ColorRead.the-variants as C
@@ -29,7 +33,7 @@ use Rattle.packed.specs.Numbers.{places, colorNumber}
 use Rattle.fast_numbers.specs.Told.{toldNumber}
 use Rattle.fast_numbers.specs.declared.ToldNumber.{ToldNumber}
 use Rattle.fast_color_functions.specs.Told.{toldColor}
-use Rattle.fast_color_functions.proofs.Numbers.{Late, told-here, late}
+use Rattle.fast_color_functions.proofs.Numbers.{anew, Late, told-here, late}
 
 module _ (x : ℕ) where
   -- what a call answered, and a flag that one answered
@@ -83,4 +87,22 @@ pub tell-color : (c : Color) {n x : ℕ} (p : Place) → n ≡ colorNumber c →
 unfolding toldColor
 tell-color c p e h = rw (← e) h
 
-pub ruleset tellings = (told-here, late, tell-bind, tell-yes, tell-no, tell-number, tell-none, tell-close, tell-unclosed, tell-here, close-near, tell-color)
+-- a colour of `hsl` has alpha 255
+pub hsl-opaque : (h s l : Float) {c : Color} → c ≡ hslColor h s l → rgba (c .red) (c .green) (c .blue) 255 ≡ hslColor h s l
+unfolding hslColor hslToRgb
+hsl-opaque h s l e = rw e refl
+
+-- what is told of a slice that is taken anew is told of the text
+module _ (s : List ℕ) (at : ℕ) where
+  pub item-anew : {r : ToldNumber} → r ≡ toldNumber (parseListNumber (anew s) at) → r ≡ toldNumber (parseListNumber s at)
+  item-anew q = rw (rest-part s 0) at q
+
+  pub share-anew : {r : ToldNumber} → r ≡ toldNumber (parseListNumberOrPercent (anew s) at) → r ≡ toldNumber (parseListNumberOrPercent s at)
+  share-anew q = rw (rest-part s 0) at q
+
+  pub alpha-anew : (c : Color) {x : ℕ} → x ≡ toldColor (parseAlpha (anew s) at c) → x ≡ toldColor (parseAlpha s at c)
+  alpha-anew c q = rw (rest-part s 0) at q
+
+pub ruleset anews = (item-anew, share-anew, alpha-anew)
+
+pub ruleset tellings = (told-here, late, tell-bind, tell-yes, tell-no, tell-number, tell-none, tell-close, tell-unclosed, tell-here, close-near, tell-color, hsl-opaque)

@@ -1,2 +1,3 @@
 pub mod Told
 pub mod Brackets
+pub mod WholeNumbers

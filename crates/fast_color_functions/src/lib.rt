@@ -1,4 +1,5 @@
-// Colours without their refusals: `rgb` is told sooner, and every other colour as `color` reads it.
+// Colours without their refusals: `rgb` and `hsl` are told sooner, and every other colour as `color` reads it.
+ghost use mathlib.Core.Bool.{true};
 ghost use mathlib.Core.Path.{_≡_};
 ghost use Prim.Native.Nat.{_+_, _*_, _≤_, _<_};
 ghost use lib.ListN.{length};
@@ -9,11 +10,13 @@ ghost use Rattle.color.specs.declared.ColorRead.the-variants as C;
 ghost use Rattle.packed.specs.Numbers.{noColor, places};
 ghost use Rattle.fast_numbers.specs.Told.{toldNumber};
 ghost use Rattle.fast_color_functions.specs.Told.{toldColor};
-ghost use Rattle.fast_color_functions.specs.Brackets.{rgbNumbers};
+ghost use Rattle.fast_color_functions.specs.Brackets.{rgbNumbers, rgbBlue, hslNumbers};
+ghost use Rattle.fast_color_functions.specs.WholeNumbers.{isStop, WholeAt, Tells};
 use bytes::Place;
 use color::Color;
 use color::ColorRead;
 use fast_numbers::ToldNumber;
+use numbers::LIMIT;
 
 // Where the colour's number begins in what is told, above the place where reading goes on.
 pub const TOLD_COLOR: u64 = 0x2000;
@@ -33,6 +36,20 @@ pub fn told_color(text: &[u8], at: Place) -> u64
     if bytes::starts_with(text, start, b"rgba(") {
         return rgb(&text[0..], Place(i + 5));
     }
+    if bytes::starts_with(text, start, b"hsl(") {
+        return hsl(&text[0..], Place(i + 4));
+    }
+    if bytes::starts_with(text, start, b"hsla(") {
+        return hsl(&text[0..], Place(i + 5));
+    }
+    told_plainly(text, at)
+}
+
+// Any other colour, as the plain reader reads it.
+fn told_plainly(text: &[u8], at: Place) -> u64
+    requires { ⌜ length (now text) ≤ 4096 ⌝ }
+    ensures { λ r. ⌜ r ≡ toldColor (parseColor (now (text .entry)) (at .0)) ⌝ }
+{
     match color::parse_color(&text[0..], at) {
         ColorRead::Value(color, end) => joined(packed::color_number(color), end),
         ColorRead::Refused(_) => 0,
@@ -41,6 +58,18 @@ pub fn told_color(text: &[u8], at: Place) -> u64
 
 // The numbers of `rgb`: the `%` of the first decides for the others.
 fn rgb(text: &[u8], at: Place) -> u64
+    requires { ⌜ length (now text) ≤ 4096 ⌝ }
+    ensures { λ r. ⌜ r ≡ toldColor (rgbNumbers (now (text .entry)) (at .0)) ⌝ }
+{
+    let told = wholes(text, at);
+    if 0 < told {
+        return told;
+    }
+    any_rgb(text, at)
+}
+
+// The same for numbers of every kind.
+fn any_rgb(text: &[u8], at: Place) -> u64
     requires { ⌜ length (now text) ≤ 4096 ⌝ }
     ensures { λ r. ⌜ r ≡ toldColor (rgbNumbers (now (text .entry)) (at .0)) ⌝ }
 {
@@ -54,6 +83,90 @@ fn rgb(text: &[u8], at: Place) -> u64
         return marked(text, after_number(text, Place(i + 1)), n.value);
     }
     plain(text, after_number(text, end), n.value)
+}
+
+// A whole number, and the byte `stop` directly after it: there is neither a sign, a dot nor an exponent to look for.
+fn whole(text: &[u8], at: Place, stop: u8) -> ToldNumber
+    requires { ⌜ isStop stop ≡ true ⌝ }
+    ensures { λ r. ⌜ WholeAt (now (text .entry)) (at .0) stop r ⌝ }
+{
+    let start = bytes::skip_spaces(text, at);
+    let digits = numbers::read_digits(text, start, 0);
+    let i = start.0;
+    let end = digits.end;
+    let e = end.0;
+    let n = digits.value;
+    if (i < e) & ((n < LIMIT) & bytes::is_curr_byte_eq(text, end, stop)) {
+        return ToldNumber {
+            value: fast_numbers::whole_value(false, n),
+            end,
+        };
+    }
+    ToldNumber {
+        value: 0.0,
+        end: Place(0),
+    }
+}
+
+// Three whole numbers with commas, as most colours with `rgb` have; 0 where nothing is told.
+fn wholes(text: &[u8], at: Place) -> u64
+    requires { ⌜ length (now text) ≤ 4096 ⌝ }
+    ensures { λ r. ⌜ Tells r (toldColor (rgbNumbers (now (text .entry)) (at .0))) ⌝ }
+{
+    let r = whole(text, at, b',');
+    let i = r.end.0;
+    if i == 0 {
+        return 0;
+    }
+    let g = whole(text, Place(i + 1), b',');
+    let j = g.end.0;
+    if j == 0 {
+        return 0;
+    }
+    let red = floats::channel(r.value);
+    whole_blue(text, Place(j + 1), red, floats::channel(g.value))
+}
+
+// The third of them, and the bracket or a fourth number.
+fn whole_blue(text: &[u8], at: Place, red: u8, green: u8) -> u64
+    requires { ⌜ length (now text) ≤ 4096 ⌝ }
+    ensures { λ r. ⌜ Tells r (toldColor (rgbBlue (now (text .entry)) (at .0) red green)) ⌝ }
+{
+    let b = whole(text, at, b')');
+    let end = b.end;
+    if 0 < end.0 {
+        return closed(end, red, green, floats::channel(b.value), 255);
+    }
+    let c = whole(text, at, b',');
+    let k = c.end.0;
+    if k == 0 {
+        return 0;
+    }
+    alpha(text, Place(k + 1), red, green, floats::channel(c.value))
+}
+
+// The numbers of `hsl`.
+fn hsl(text: &[u8], at: Place) -> u64
+    requires { ⌜ length (now text) ≤ 4096 ⌝ }
+    ensures { λ r. ⌜ r ≡ toldColor (hslNumbers (now (text .entry)) (at .0)) ⌝ }
+{
+    let hue = item(&text[0..], at);
+    let p = hue.end;
+    if p.0 == 0 {
+        return 0;
+    }
+    let saturation = share(&text[0..], p);
+    let q = saturation.end;
+    if q.0 == 0 {
+        return 0;
+    }
+    let lightness = share(&text[0..], q);
+    let r = lightness.end;
+    if r.0 == 0 {
+        return 0;
+    }
+    let c = color::hsl_color(hue.value, saturation.value, lightness.value);
+    alpha(&text[0..], r, c.red, c.green, c.blue)
 }
 
 fn plain(text: &[u8], at: Place, first: f64) -> u64

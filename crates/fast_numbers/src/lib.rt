@@ -140,7 +140,7 @@ fn untold() -> ToldNumber
     }
 }
 
-fn whole_value(minus: bool, m: u64) -> f64
+pub fn whole_value(minus: bool, m: u64) -> f64
     requires { ⌜ m < cap ⌝ }
     ensures { λ r. ⌜ r ≡ valueOf minus m false 0 ⌝ }
 {

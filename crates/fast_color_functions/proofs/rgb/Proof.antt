@@ -1,7 +1,4 @@
-use Rattle.color.specs.Color.{rgbRest}
-use Rattle.fast_color_functions.specs.Brackets.{rgbNumbers}
-use Rattle.fast_color_functions.proofs.Tellings.{tellings}
-use Rattle.bytes.proofs.Wording.{curr-next}
+use Rattle.fast_color_functions.proofs.WholeNumbers.{tells-this}
 use borrow.Author.Needs.{needs}
 use Rattle.fast_color_functions.proofs.rgb.Statement.{statement}
 use Rattle.fast_color_functions.proofs.rgb.Tie as tie
@@ -10,16 +7,7 @@ pub rgb-spec : {M : Type 1} → statement M
 rgb-spec =
     tie.close
     (tie.spec
-    (λ c. search needs)
-    (λ c. search needs)
-    (λ c. search needs)
     (λ c κs. search needs)
-    (λ c. unfold rgbNumbers rgbRest in search (tellings, needs) depth 20)
+    (λ c. search (tells-this, needs))
     (λ c κs. search needs)
-    (λ c. search (curr-next, needs))
-    (λ c κs. search needs)
-    (λ c κs. search needs)
-    (λ c. unfold rgbNumbers rgbRest in search (tellings, needs) depth 20)
-    (λ c κs. search needs)
-    (λ c κs. search needs)
-    (λ c. unfold rgbNumbers rgbRest in search (tellings, needs) depth 20))
+    (λ c. search needs))

@@ -1,5 +1,5 @@
 use Rattle.bytes.proofs.Wording.{word-fits}
-use Rattle.fast_color_functions.proofs.Openings.{told-near, openings}
+use Rattle.fast_color_functions.proofs.Openings.{openings}
 use borrow.Author.Needs.{needs}
 use Rattle.fast_color_functions.proofs.told_color.Statement.{statement}
 use Rattle.fast_color_functions.proofs.told_color.Tie as tie
@@ -26,12 +26,20 @@ told-color-spec =
     (λ c κs. search needs)
     (λ c. search (openings, needs))
     (λ c. search needs)
-    (λ c. search needs)
-    (λ c. search needs)
     (λ c κs. search needs)
     (λ c. search needs)
-    (λ c κs. search needs)
-    (λ c κs. search (told-near, needs))
     (λ c. search needs)
+    (λ c. search needs)
+    (λ c. search (word-fits, needs))
+    (λ c κs. search needs)
     (λ c. search (openings, needs))
-    (λ c. search (openings, needs)))
+    (λ c. search needs)
+    (λ c κs. search needs)
+    (λ c. search needs)
+    (λ c. search needs)
+    (λ c. search needs)
+    (λ c. search (word-fits, needs))
+    (λ c κs. search needs)
+    (λ c. search (openings, needs))
+    (λ c κs. search needs)
+    (λ c. search needs))
