@@ -16,8 +16,8 @@ use Rattle.paint.specs.declared.PaintAnswer.{PaintAnswer}
 use Rattle.paint.specs.declared.PaintAnswer.the-variants as A
 use Rattle.paint.specs.declared.PaintFallback.the-variants as F
 use Rattle.packed.specs.Fits.{Bytes, Fits}
-use Rattle.packed.specs.Numbers.{noColor, colors, colorNumber, numberColor, fallbackNumber, paintNumber, decodedPaint, colorAnswerNumber, paintAnswerNumber, colorOr}
-use Rattle.packed.proofs.Digits.{red-back, green-back, blue-back, alpha-back, color-below, digits-back, tint-kind, tint-alone, link-back, paint-some}
+use Rattle.packed.specs.Numbers.{noColor, noPaint, colors, colorNumber, numberColor, fallbackNumber, paintNumber, decodedPaint, colorAnswerNumber, paintAnswerNumber, colorOr, paintOr}
+use Rattle.packed.proofs.Digits.{red-back, green-back, blue-back, alpha-back, color-below, paint-below, digits-back, tint-kind, tint-alone, link-back, paint-some}
 use Rattle.packed.proofs.Channels.{answer-bytes}
 use Rattle.packed.proofs.Readings.{answer-fits}
 
@@ -95,20 +95,29 @@ color-told s v q h = go (color.fromStr s) refl q
     go (C.Value c) e k = rw (k, color-back c (color-fits s c e)) (sym e)
     go (C.Refused f) e k = absurd (omega arith)
 
--- where it is noColor, the text is refused;
-pub color-refused : (s : List ℕ) (v : ℕ) → v ≡ colorOr (color.fromStr s) → noColor ≤ v → (e : Refusal) × (color.fromStr s ≡ C.Refused e)
+-- where it is noColor or more, the text is refused, and by which number;
+pub color-refused : (s : List ℕ) (v : ℕ) → v ≡ colorOr (color.fromStr s) → noColor ≤ v → (e : Refusal) × ((color.fromStr s ≡ C.Refused e) × (v ≡ noColor + e .number))
 unfolding colorOr
 color-refused s v q h = go (color.fromStr s) refl q
   where
-    go : (a : ColorAnswer) → color.fromStr s ≡ a → v ≡ colorOr a → (e : Refusal) × (a ≡ C.Refused e)
+    go : (a : ColorAnswer) → color.fromStr s ≡ a → v ≡ colorOr a → (e : Refusal) × ((a ≡ C.Refused e) × (v ≡ noColor + e .number))
     go (C.Value c) e k = absurd (omega (arith, color-below c (color-fits s c e)))
-    go (C.Refused f) e k = (f, refl)
+    go (C.Refused f) e k = (f, (refl, k))
 
--- where it tells a paint, that is the paint read.
-pub paint-told : (s : List ℕ) (v : ℕ) → v ≡ paintAnswerNumber (paint.fromStr s) → 0 < v → A.Value (decodedPaint v) ≡ paint.fromStr s
-unfolding paintAnswerNumber
+-- where it tells a paint, that is the paint read;
+pub paint-told : (s : List ℕ) (v : ℕ) → v ≡ paintOr (paint.fromStr s) → v < noPaint → A.Value (decodedPaint v) ≡ paint.fromStr s
+unfolding paintOr
 paint-told s v q h = go (paint.fromStr s) refl q
   where
-    go : (a : PaintAnswer) → paint.fromStr s ≡ a → v ≡ paintAnswerNumber a → A.Value (decodedPaint v) ≡ paint.fromStr s
+    go : (a : PaintAnswer) → paint.fromStr s ≡ a → v ≡ paintOr a → A.Value (decodedPaint v) ≡ paint.fromStr s
     go (A.Value p) e k = rw (k, paint-back p (paint-fits s p e)) (sym e)
     go (A.Refused f) e k = absurd (omega arith)
+
+-- and where it is noPaint or more, by which number the text is refused.
+pub paint-refused : (s : List ℕ) (v : ℕ) → v ≡ paintOr (paint.fromStr s) → noPaint ≤ v → (e : Refusal) × ((paint.fromStr s ≡ A.Refused e) × (v ≡ noPaint + e .number))
+unfolding paintOr
+paint-refused s v q h = go (paint.fromStr s) refl q
+  where
+    go : (a : PaintAnswer) → paint.fromStr s ≡ a → v ≡ paintOr a → (e : Refusal) × ((a ≡ A.Refused e) × (v ≡ noPaint + e .number))
+    go (A.Value p) e k = absurd (omega (arith, paint-below p (paint-fits s p e)))
+    go (A.Refused f) e k = (f, (refl, k))

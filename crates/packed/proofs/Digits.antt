@@ -1,5 +1,5 @@
 -- The parts of a number, each of which comes back.
-use Prim.Native.Nat.{ℕ, _+_, _*_, _/_, _%_, _<_}
+use Prim.Native.Nat.{ℕ, _+_, _*_, _/_, _%_, _≤_, _<_}
 use mathlib.Core.Bool.{cond}
 use mathlib.Core.Path.{_≡_}
 use native.Mathlib.Omega.{arith}
@@ -10,8 +10,8 @@ use Rattle.paint.specs.declared.Paint.{Paint}
 use Rattle.paint.specs.declared.Paint.the-variants as P
 use Rattle.paint.specs.declared.PaintFallback.{PaintFallback}
 use Rattle.paint.specs.declared.PaintFallback.the-variants as F
-use Rattle.packed.specs.Fits.{Bytes, LinkFits}
-use Rattle.packed.specs.Numbers.{channels, greens, blues, alphas, noColor, kinds, starts, places, lens, fallbacks, fallbackKinds, colors, colorNumber, numberColor, fallbackNumber, paintNumber, decodedFallback, decodedPaint}
+use Rattle.packed.specs.Fits.{Bytes, FallbackFits, LinkFits, Fits}
+use Rattle.packed.specs.Numbers.{channels, greens, blues, alphas, noColor, noPaint, kinds, starts, places, lens, fallbacks, fallbackKinds, colors, colorNumber, numberColor, fallbackNumber, paintNumber, decodedFallback, decodedPaint}
 
 -- a colour's
 module _ (c : Color) (h : Bytes c) where
@@ -93,3 +93,21 @@ paint-some P.ContextFill = omega arith
 paint-some P.ContextStroke = omega arith
 paint-some (P.Color c) = omega arith
 paint-some (P.FuncIRI l f) = omega arith
+
+-- a paint's number is below noPaint
+fallback-below : (f : PaintFallback) → FallbackFits f → fallbackNumber f + fallbacks ≤ noPaint
+unfolding fallbackNumber
+fallback-below F.Absent h = omega arith
+fallback-below F.None h = omega arith
+fallback-below F.CurrentColor h = omega arith
+fallback-below (F.Color c) h = omega (arith, color-below c h)
+
+pub paint-below : (v : Paint) → Fits v → paintNumber v < noPaint
+unfolding paintNumber
+paint-below P.None h = omega arith
+paint-below P.Inherit h = omega arith
+paint-below P.CurrentColor h = omega arith
+paint-below P.ContextFill h = omega arith
+paint-below P.ContextStroke h = omega arith
+paint-below (P.Color c) h = omega (arith, color-below c h)
+paint-below (P.FuncIRI link f) h = omega (arith, h .start, h .len, fallback-below f (h .fallback))

@@ -111,7 +111,12 @@ unfoldable pub paintAnswerNumber : PaintAnswer → ℕ
 paintAnswerNumber (A.Value p) = paintNumber p
 paintAnswerNumber (A.Refused e) = 0
 
--- a colour's own number, without a kind; noColor for a refusal
+-- a colour's own number, without a kind; for a refusal, noColor and the refusal's number
 unfoldable pub colorOr : ColorAnswer → ℕ
 colorOr (C.Value c) = colorNumber c
-colorOr (C.Refused e) = noColor
+colorOr (C.Refused e) = noColor + e .number
+
+-- a paint's number, or noPaint and the refusal's
+unfoldable pub paintOr : PaintAnswer → ℕ
+paintOr (A.Value p) = paintNumber p
+paintOr (A.Refused e) = noPaint + e .number
