@@ -1,12 +1,12 @@
 -- `#` and digits: as a whole text, and at a place.
 use Prim.Native.Nat.{ℕ, zero, suc, _+_, _-_, _≤_, _<_}
-use mathlib.Core.Bool.{Bool, true, false, _&&_, _||_, not, cond}
+use mathlib.Core.Bool.{Bool, true, false, _&&_, _||_, not, cond, true≢false}
 use mathlib.Core.List.{List}
 use mathlib.Core.Logic.{⊎-elim}
 use mathlib.Core.Path.{_≡_, refl, sym, _∙_}
 use native.Mathlib.Omega.{arith}
-use borrow.Author.Tests.{not-true, leb-true, eqb-true, eq-eqb, ne-eqb}
-use lib.Dec.{eqb, leb}
+use borrow.Author.Tests.{not-true, leb-true, ltb-false, eqb-true, eq-eqb, ne-eqb}
+use lib.Dec.{eqb, leb, ltb}
 use lib.ListN.{length, getD}
 use Rattle.bytes.proofs.Ahead.{scan-bytes}
 use Rattle.bytes.specs.Moves.{place}
@@ -32,7 +32,7 @@ use Rattle.fast_color_functions.proofs.Numbers.{anew}
 use Rattle.fast_color.specs.Digits.{ifDigits, sixDigits, threeDigits, eightDigits, fourDigits, digitsAlone}
 use Rattle.fast_color.specs.Told.{Tells}
 use Rattle.fast_color.proofs.Values.{digit-ascii}
-use Rattle.fast_color.proofs.Answers.{text-refused, text-color}
+use Rattle.fast_color.proofs.Answers.{or-first, or-second, text-invalid, text-color}
 use Rattle.fast_color.proofs.Starts.{hash-start, numbered}
 
 -- digits that were found are there: v is their colour's number
@@ -62,19 +62,21 @@ module _ (s : List ℕ) (at : ℕ) where
   short-alpha e = let k : at + 4 - at ≡ 4 = omega arith in simp (e, k)
 
 module _ (s : List ℕ) (some : 0 < length s) (hash : getD s 0 0 ≡ 35) where
+  -- digits alone are ASCII
+  digits-admit : scan isHexDigit s 1 ≡ length s → length s ≤ 4096 → admitText s ≡ Admitted
+  digits-admit all small = sym (admit-good s small (ascii-utf8 s (sym (ascii-all s byte)) refl) refl)
+    where
+      byte : (j : ℕ) → j < length s → getD s j 0 < 128
+      byte zero h = omega (arith, hash)
+      byte (suc j) h = digit-ascii (getD s (suc j) 0) (scan-bytes isHexDigit s 1 (suc j) (omega arith) (omega arith))
+
   -- n digits, whose colour is d, are the whole text
   module _ (n : ℕ) {d : Color} (read : scan isHexDigit s 1 ≡ 1 + n → parseHex s 1 ≡ C.Value d (place (1 + n))) where
     alone : {v : ℕ} → v < noColor → n < 9 → length s ≡ 1 + n → v ≡ ifDigits n s 1 d → Tells v (colorOr (fromStr s))
     alone l small h q =
         let f = found n 1 s d l q in
         let k : scan isHexDigit s 1 ≡ 1 + n = omega (arith, f .0, scan-le isHexDigit s 1 (omega arith)) in
-        let a : isAscii s ≡ true = ascii-all s (byte (k ∙ sym h)) in
-        let admit : admitText s ≡ Admitted = sym (admit-good s (omega arith) (ascii-utf8 s (sym a) refl) refl) in
-        text-color s admit (hash-start s 0 some hash ∙ rw h (read k)) (f .1)
-      where
-        byte : scan isHexDigit s 1 ≡ length s → (j : ℕ) → j < length s → getD s j 0 < 128
-        byte all zero h = omega (arith, hash)
-        byte all (suc j) h = digit-ascii (getD s (suc j) 0) (scan-bytes isHexDigit s 1 (suc j) (omega arith) (omega arith))
+        text-color s (digits-admit (k ∙ sym h) (omega arith)) (hash-start s 0 some hash ∙ rw h (read k)) (f .1)
 
   pub hex-told : {v : ℕ} → v ≡ digitsAlone (anew s) → v < noColor → Tells v (colorOr (fromStr s))
   unfolding digitsAlone sixDigits threeDigits eightDigits fourDigits
@@ -86,29 +88,18 @@ module _ (s : List ℕ) (some : 0 < length s) (hash : getD s 0 0 ≡ 35) where
       (λ i. either (eqb (length s) 5) (λ j. alone 4 (short-alpha s 1) l (omega arith) (eqb-true (length s) 5 j) (simp (f, g, i, j) at q))
       (λ j. let z : v ≡ noColor = simp (f, g, i, j) at q in absurd (omega arith)))))
 
-  -- a run of another number is refused: n is where it ends
-  pub hex-refused : (n : ℕ) → n ≡ scan isHexDigit s 1 → (eqb n 4 || (eqb n 5 || (eqb n 7 || eqb n 9))) ≡ false → Tells noColor (colorOr (fromStr s))
+  -- a run of another number that is the whole text is refused: n is where it ends
+  pub hex-refused : (n : ℕ) → length s ≤ 4096 → n ≡ scan isHexDigit s 1 → (ltb n (length s) || (eqb n 4 || (eqb n 5 || (eqb n 7 || eqb n 9)))) ≡ false → Tells (noColor + 5) (colorOr (fromStr s))
   unfolding parseHex bind
-  hex-refused n q e = text-refused s (invalidValue n) (hash-start s 0 some hash ∙ other)
+  hex-refused n small q e =
+      let all : scan isHexDigit s 1 ≡ length s = omega (arith, ltb-false n (length s) (or-first (ltb n (length s)) _ e), scan-le isHexDigit s 1 (omega arith)) in
+      text-invalid s (digits-admit all small) n (hash-start s 0 some hash ∙ other (or-second (ltb n (length s)) _ e))
     where
       less : (k : ℕ) → eqb n (suc k) ≡ false → eqb (n - 1) k ≡ false
-      less k d =
-          ne-eqb (n - 1) k (λ f.
-          let m : n ≡ suc k = omega (arith, scan-ge isHexDigit s 1) in
-          let x : false ≡ true = sym d ∙ eq-eqb n (suc k) m in
-          let z : _≡_ {A = ℕ} 0 1 = cc in
-          omega arith)
+      less k d = ne-eqb (n - 1) k (λ f. true≢false (sym (eq-eqb n (suc k) (omega (arith, scan-ge isHexDigit s 1))) ∙ d))
 
-      or-first : (t u : Bool) → (t || u) ≡ false → t ≡ false
-      or-first true u e = e
-      or-first false u e = refl
-
-      or-second : (t u : Bool) → (t || u) ≡ false → u ≡ false
-      or-second true u e = let z : _≡_ {A = ℕ} 0 1 = cc in absurd (omega arith)
-      or-second false u e = e
-
-      other : parseHex s 1 ≡ C.Refused (invalidValue n)
-      other =
+      other : (eqb n 4 || (eqb n 5 || (eqb n 7 || eqb n 9))) ≡ false → parseHex s 1 ≡ C.Refused (invalidValue n)
+      other e =
           let g = or-second (eqb n 4) (eqb n 5 || (eqb n 7 || eqb n 9)) e in
           let h = or-second (eqb n 5) (eqb n 7 || eqb n 9) g in
           simp (← q, less 3 (or-first (eqb n 4) (eqb n 5 || (eqb n 7 || eqb n 9)) e), less 4 (or-first (eqb n 5) (eqb n 7 || eqb n 9) g), less 6 (or-first (eqb n 7) (eqb n 9) h), less 8 (or-second (eqb n 7) (eqb n 9) h))

@@ -1,3 +1,4 @@
+pub mod Bare
 pub mod Values
 pub mod Runs
 pub mod Alpha

@@ -1,17 +1,18 @@
 -- A word that is a name, or none: as a whole text, and at a place.
-use Prim.Native.Nat.{ℕ, suc, _-_, _≤_, _<_}
+use Prim.Native.Nat.{ℕ, suc, _+_, _-_, _≤_, _<_}
 use mathlib.Core.Bool.{Bool, true, false, _&&_, _||_, not}
 use mathlib.Core.List.{List, [], _∷_}
 use mathlib.Core.Path.{_≡_, refl, sym, ap, _∙_}
 use native.Mathlib.Omega.{arith}
-use borrow.Author.Tests.{not-true, leb-true, eqb-true}
-use lib.Dec.{eqb, leb}
+use borrow.Author.Tests.{not-true, leb-true, ltb-false}
+use lib.Dec.{leb, ltb}
 use lib.ListN.{length, getD, take, drop, length-map, length-take, length-drop}
 use Rattle.bytes.proofs.Ahead.{scan-bytes}
 use Rattle.bytes.specs.Moves.{place}
 use Rattle.bytes.specs.Bytes.{within, isDigit, isUpper, isAsciiIdent}
-use Rattle.utf8.specs.Characters.{isAscii}
-use Rattle.stream.specs.Faults.{invalidValue}
+use Rattle.utf8.specs.Characters.{isAscii, utf8Of}
+use Rattle.utf8.specs.declared.Utf8.{Utf8}
+use Rattle.utf8.specs.declared.Utf8.the-variants.{WellFormed}
 use Rattle.bytes.specs.Flow.{bind}
 use Rattle.stream.specs.Refusals.{admitText}
 use Rattle.bytes.specs.Scan.{run, scan}
@@ -22,9 +23,9 @@ use Rattle.stream.proofs.Edges.{admit-good}
 use Rattle.stream.proofs.Opening.{isWord}
 use Rattle.bytes.proofs.Parts.{rest-part}
 use Rattle.bytes.proofs.Ranges.{and-first, and-second, either}
-use Rattle.bytes.proofs.Scans.{run-le}
+use Rattle.bytes.proofs.Scans.{run-le, scan-le}
 use Rattle.utf8.proofs.Walks.{ascii-all, ascii-utf8}
-use Rattle.bytes.proofs.Wording.{word-byte, same-eq, lower-other}
+use Rattle.bytes.proofs.Wording.{word-byte, same-eq}
 use Rattle.names.specs.Keywords.{Keyword, keywords}
 use Rattle.names.specs.Look.{channels, lookUp, namedOf}
 use Rattle.names.specs.declared.Named.{Named}
@@ -38,7 +39,7 @@ use Rattle.fast_names.specs.Named.{namedNumber}
 use Rattle.fast_names.proofs.Bounds.{named-unnamed}
 use Rattle.fast_color_functions.proofs.Numbers.{anew}
 use Rattle.fast_color.specs.Told.{Tells}
-use Rattle.fast_color.proofs.Answers.{text-refused, text-color}
+use Rattle.fast_color.proofs.Answers.{or-first, or-second, text-invalid, text-color}
 use Rattle.fast_color.proofs.Starts.{word-start, numbered}
 
 -- a name in the table begins no function, is a word, and short
@@ -173,19 +174,24 @@ module _ (s : List ℕ) {v : ℕ} (q : v ≡ namedNumber (namedOf (anew s))) whe
       let all : scan isAsciiIdent s 0 ≡ length s = omega (arith, n .word) in
       text-color s (word-admit s all (n .small)) (word-read s all (n .free) ∙ n .read (length s)) (here ∙ n .number)
 
-  -- another word: e is where it ends
-  pub name-none : {e : ℕ} → noColor ≤ v → e ≡ scan isAsciiIdent s 0 → (leb 5 (length s) && eqb e (length s)) ≡ true → Tells noColor (colorOr (fromStr s))
-  unfolding isRgb isHsl
-  name-none {e} h p t =
-      let long : 5 ≤ length s = leb-true 5 (length s) (and-first (leb 5 (length s)) (eqb e (length s)) t) in
-      let all : scan isAsciiIdent s 0 ≡ length s = sym p ∙ eqb-true e (length s) (and-second (leb 5 (length s)) (eqb e (length s)) t) in
-      let f : Free s =
-      record {
-        some = omega arith;
-        rgb = simp (← lower-other s (ascii "rgb") (λ k. omega arith), ← lower-other s (ascii "rgba") (λ k. omega arith));
-        hsl = simp (← lower-other s (ascii "hsl") (λ k. omega arith), ← lower-other s (ascii "hsla") (λ k. omega arith));
-      } in
+  -- another word, that begins no function: e is where it ends, t and u are what the tests for one answered
+  pub name-none : {e : ℕ} {t u : Bool} → noColor ≤ v → 0 < length s → length s ≤ 4096 → e ≡ scan isAsciiIdent s 0 → t ≡ isRgb s → u ≡ isHsl s → (ltb e (length s) || (t || u)) ≡ false → Tells (noColor + 5) (colorOr (fromStr s))
+  name-none {e} {t} {u} h some small p a b k =
+      let m = or-second (ltb e (length s)) _ k in
+      let all : scan isAsciiIdent s 0 ≡ length s = omega (arith, ltb-false e (length s) (or-first (ltb e (length s)) _ k), scan-le isAsciiIdent s 0 (omega arith)) in
+      let f : Free s = record { some = some; rgb = sym a ∙ or-first t u m; hsl = sym b ∙ or-second t u m } in
       let n : namedOf s ≡ N.Unknown = named-unnamed s (omega (arith, here)) in
-      text-refused s (invalidValue (length s)) (word-read s all f ∙ ap (λ m. namedRead m (length s)) n)
+      text-invalid s (word-admit s all small) (length s) (word-read s all f ∙ ap (λ m. namedRead m (length s)) n)
 
-pub ruleset names = (name-told, name-none)
+-- a word that names no colour, with whatever follows it: e is where it ends
+pub unnamed-told : (s : List ℕ) {e v : ℕ} {t u : Bool} {w : Utf8} → 0 < length s → length s ≤ 4096 → 35 < getD s 0 0 → e ≡ scan isAsciiIdent s 0
+    → t ≡ isRgb (take (e - 0) (drop 0 s)) → u ≡ isHsl (take (e - 0) (drop 0 s)) → (t || u) ≡ false → v ≡ namedNumber (namedOf (take (e - 0) (drop 0 s))) → noColor ≤ v
+    → w ≡ utf8Of s → w ≡ WellFormed → Tells (noColor + 5) (colorOr (fromStr s))
+unfolding parseWord namedColor part bind
+unnamed-told s {e} {v} {t} {u} some small first q a b k n h x y =
+    let r : isRgb (take (e - 0) (drop 0 s)) ≡ false = sym a ∙ or-first t u k in
+    let l : isHsl (take (e - 0) (drop 0 s)) ≡ false = sym b ∙ or-second t u k in
+    let z : namedOf (take (e - 0) (drop 0 s)) ≡ N.Unknown = named-unnamed (take (e - 0) (drop 0 s)) (omega arith) in
+    text-invalid s (sym (admit-good s small x y)) e (word-start s 0 some first ∙ simp (← q, r, l, z))
+
+pub ruleset names = (name-told, name-none, unnamed-told)

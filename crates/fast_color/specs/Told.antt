@@ -1,8 +1,12 @@
 -- What a number tells of another. Only inner contracts speak of it.
-use Prim.Native.Nat.{ℕ, _≤_}
+use Prim.Native.Nat.{ℕ, _+_, _<_}
 use mathlib.Core.Path.{_≡_}
 use Rattle.packed.specs.Numbers.{noColor}
 
--- v is n, or is above noColor and tells nothing
+-- the first number that tells nothing: refusals are told below it, by noColor and their number
+abbrev pub untold : ℕ
+untold = noColor + 32
+
+-- v is n, or tells nothing
 pub record Tells (v n : ℕ) : Type 0 where
-  pub is : v ≤ noColor → v ≡ n
+  pub is : v < untold → v ≡ n

@@ -5,7 +5,7 @@ ghost use lib.ListN.{length, getD};
 ghost use Rattle.color.specs.Answer.{fromStr};
 ghost use Rattle.color.specs.Color.{parseColor};
 ghost use Rattle.packed.specs.Numbers.{colorOr};
-ghost use Rattle.fast_color.specs.Told.{Tells};
+ghost use Rattle.fast_color.specs.Told.{untold, Tells};
 use bytes::Place;
 use color::ColorAnswer;
 use color::ColorRead;
@@ -19,20 +19,28 @@ mod numbered;
 
 pub use numbered::number;
 
-// The answer where nothing is told; NO_COLOR tells that a text is refused.
-const UNTOLD: u64 = 0x1_0000_0001;
+// The answer where nothing is told. Below it a refusal is told, by NO_COLOR and its number.
+pub const UNTOLD: u64 = 0x1_0000_0020;
 
-// A colour as a whole text, as its number; NO_COLOR for a refused text.
+// A text over the limit, one that has ended, and one that is no colour.
+const TOO_LONG: u64 = 0x1_0000_0001;
+
+pub const ENDED: u64 = 0x1_0000_0004;
+
+pub const INVALID: u64 = 0x1_0000_0005;
+
+// A colour as a whole text, as its number; for a refused text, NO_COLOR and the refusal's number.
 pub fn value(text: &[u8]) -> u64
     ensures { λ r. ⌜ r ≡ colorOr (fromStr (now (text .entry))) ⌝ }
+    ensures { λ r. ⌜ r < untold ⌝ }
 {
     let v = told_text(&text[0..]);
-    if v <= NO_COLOR {
+    if v < UNTOLD {
         return v;
     }
     match color::from_str(text) {
         ColorAnswer::Value(c) => packed::color_number(c),
-        ColorAnswer::Refused(_) => NO_COLOR,
+        ColorAnswer::Refused(e) => NO_COLOR + (e.number as u64),
     }
 }
 
@@ -54,22 +62,22 @@ fn told_text(text: &[u8]) -> u64
 {
     let len = text.len();
     if len == 0 {
-        return NO_COLOR;
+        return ENDED;
     }
     if 4096 < len {
-        return NO_COLOR;
+        return TOO_LONG;
     }
     if text[0] == b'#' {
         return told_hex(text);
     }
     let last = text[len - 1];
     if last == b')' {
-        return told_function(&text[0..]);
+        return told_bracket(&text[0..]);
     }
     if is_letter(last) {
         return told_word(&text[0..]);
     }
-    UNTOLD
+    told_unnamed(&text[0..])
 }
 
 // A letter of either case. Nothing rests on which bytes it takes: they choose what is tried.
@@ -78,9 +86,10 @@ fn is_letter(b: u8) -> bool {
     (97 <= c) & (c <= 122)
 }
 
-// `#` and digits: a colour where they are the whole text, refused where their number is none of four.
+// `#` and digits alone: a colour, or refused where their number is none of four.
 fn told_hex(text: &[u8]) -> u64
     requires { ⌜ 0 < length (now text) ⌝ }
+    requires { ⌜ length (now text) ≤ 4096 ⌝ }
     requires { ⌜ getD (now text) 0 0 ≡ 35 ⌝ }
     ensures { λ r. ⌜ Tells r (colorOr (fromStr (now (text .entry)))) ⌝ }
 {
@@ -90,26 +99,63 @@ fn told_hex(text: &[u8]) -> u64
     }
     let end = bytes::skip_hex_digits(text, Place(1));
     let n = end.0;
-    if (n == 4) | ((n == 5) | ((n == 7) | (n == 9))) {
+    if (n < text.len()) | ((n == 4) | ((n == 5) | ((n == 7) | (n == 9)))) {
         return UNTOLD;
     }
-    NO_COLOR
+    INVALID
 }
 
-// A name; or letters, digits, `-` and `_` alone that name no colour. `rgb`, `hsl` and their kin are shorter.
+// A name; or letters, digits, `-` and `_` alone that name no colour.
 fn told_word(text: &[u8]) -> u64
+    requires { ⌜ 0 < length (now text) ⌝ }
+    requires { ⌜ length (now text) ≤ 4096 ⌝ }
     ensures { λ r. ⌜ Tells r (colorOr (fromStr (now (text .entry)))) ⌝ }
 {
     let v = fast_names::from_str(&text[0..]);
     if v < NO_COLOR {
         return v;
     }
-    let len = text.len();
     let end = bytes::consume_ascii_ident(text, Place(0));
-    if (5 <= len) & (end.0 == len) {
-        return NO_COLOR;
+    if (end.0 < text.len()) | (color::is_rgb(text) | color::is_hsl(text)) {
+        return UNTOLD;
     }
-    UNTOLD
+    INVALID
+}
+
+// A word that names no colour, and whatever follows it. None of this begins with a space or with `#`.
+fn told_unnamed(text: &[u8]) -> u64
+    requires { ⌜ 0 < length (now text) ⌝ }
+    requires { ⌜ length (now text) ≤ 4096 ⌝ }
+    ensures { λ r. ⌜ Tells r (colorOr (fromStr (now (text .entry)))) ⌝ }
+{
+    if text[0] <= b'#' {
+        return UNTOLD;
+    }
+    let end = bytes::consume_ascii_ident(text, Place(0));
+    let e = end.0;
+    if color::is_rgb(&text[0..e]) | color::is_hsl(&text[0..e]) {
+        return UNTOLD;
+    }
+    if fast_names::from_str(&text[0..e]) < NO_COLOR {
+        return UNTOLD;
+    }
+    match utf8::utf8_test(text) {
+        Utf8::IllFormed(_) => UNTOLD,
+        Utf8::WellFormed => INVALID,
+    }
+}
+
+// A text that ends with a bracket. Which bytes are looked at first only chooses what is tried.
+fn told_bracket(text: &[u8]) -> u64
+    requires { ⌜ 0 < length (now text) ⌝ }
+    requires { ⌜ length (now text) ≤ 4096 ⌝ }
+    ensures { λ r. ⌜ Tells r (colorOr (fromStr (now (text .entry)))) ⌝ }
+{
+    let b = text[0] | 32;
+    if (b == b'r') | ((b == b'h') | (b == b' ')) {
+        return told_function(text);
+    }
+    told_unnamed(text)
 }
 
 // A text that ends with its colour.
@@ -119,10 +165,7 @@ fn told_function(text: &[u8]) -> u64
 {
     let len = text.len();
     let told = told_color(text, Place(0));
-    if told == 0 {
-        return NO_COLOR;
-    }
-    if told % TOLD_COLOR < len as u64 {
+    if (told == 0) | (told % TOLD_COLOR < len as u64) {
         return UNTOLD;
     }
     match utf8::utf8_test(text) {

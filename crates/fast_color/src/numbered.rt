@@ -3,6 +3,8 @@ ghost use mathlib.Core.Path.{_≡_};
 ghost use Rattle.color.specs.Answer.{fromStr};
 ghost use Rattle.packed.specs.Numbers.{colorAnswerNumber};
 ghost use Rattle.records.specs.Records.{colorRecord, recordFor};
+use crate::ENDED;
+use crate::INVALID;
 use crate::told_text;
 use color::ColorAnswer;
 use packed::NO_COLOR;
@@ -15,6 +17,10 @@ pub fn number(text: &[u8], answer: &mut [u64; 24]) -> u64
     let v = told_text(&text[0..]);
     if v < NO_COLOR {
         return packed::painted(v);
+    }
+    if (v == ENDED) | (v == INVALID) {
+        records::refused(answer, stream::bare_refusal((v - NO_COLOR) as u8));
+        return 0;
     }
     match color::from_str(text) {
         ColorAnswer::Value(c) => packed::paint_number(Paint::Color(c)),

@@ -1,20 +1,19 @@
 -- A whole text: what is told of the part that trimming leaves is told of it.
-use Prim.Native.Nat.{ℕ, _-_, _≤_, _<_}
+use Prim.Native.Nat.{ℕ, _+_, _-_, _≤_, _<_}
 use mathlib.Core.Bool.{Bool, true, _&&_}
 use mathlib.Core.List.{List}
 use mathlib.Core.Path.{_≡_, refl, sym, ap, _∙_}
 use native.Mathlib.Omega.{arith}
-use borrow.Author.Tests.{lt-leb, ltb-true}
-use lib.Dec.{ltb}
+use borrow.Author.Tests.{lt-leb}
 use lib.ListN.{length, getD, take, drop, length-drop, length-take}
 use Rattle.utf8.specs.Blanks.{trimStart, trimOf}
 use Rattle.bytes.specs.Bytes.{isSpace, within}
 use Rattle.bytes.specs.Flow.{bind}
-use Rattle.stream.specs.Refusals.{refusalOf, admitText, thenAdmitted}
+use Rattle.stream.specs.Refusals.{numberOf, bareRefusal, refusalOf, admitText, thenAdmitted}
+use Rattle.stream.specs.declared.Refusal.{Refusal}
 use Rattle.bytes.specs.Scan.{scan}
 use Rattle.stream.specs.declared.Admission.{Admission}
 use Rattle.stream.specs.declared.Admission.the-variants as M
-use Rattle.stream.specs.declared.Refusal.{Refusal}
 use Rattle.utf8.proofs.Cuts.{trim-utf8}
 use Rattle.bytes.proofs.Ranges.{and-first, and-second}
 use Rattle.bytes.proofs.Parts.{rest-part}
@@ -22,40 +21,39 @@ use Rattle.paint.specs.Answers.{fromStr}
 use Rattle.paint.specs.Moves.{movePaint, thenPaintRead}
 use Rattle.paint.specs.Reading.{parsePaint}
 use Rattle.paint.specs.declared.Paint.{Paint}
-use Rattle.paint.specs.declared.PaintAnswer.{PaintAnswer}
 use Rattle.paint.specs.declared.PaintAnswer.the-variants as A
 use Rattle.paint.specs.declared.PaintRead.{PaintRead}
 use Rattle.paint.specs.declared.PaintRead.the-variants as R
-use Rattle.packed.specs.Numbers.{noPaint, paintNumber, decodedPaint, paintAnswerNumber}
+use Rattle.packed.specs.Numbers.{noPaint, paintNumber, decodedPaint, paintOr}
 use Rattle.packed.proofs.Decoding.{paint-told}
-use Rattle.packed.proofs.Readings.{readings}
-use Rattle.fast_paint.specs.Told.{orTold, readNumber, innerNumber}
+use Rattle.fast_paint.specs.Told.{untold, orTold, readNumber, innerNumber}
+use Rattle.fast_color.proofs.Bare.{admit-low, fault-bare}
 use Rattle.fast_paint.proofs.Admits.{admits-alike}
 use Rattle.fast_paint.proofs.Tells.{right, told-is}
 use Rattle.fast_paint.proofs.Trims.{Ending, trimmed-is, trimmed-from, trimmed-utf8}
 
 -- the number of an answer, by the number of what is read
-answer-read : (s : List ℕ) → paintAnswerNumber (fromStr s) ≡ thenAdmitted (λ e. 0) (admitText s) (readNumber (trimStart s) (trimOf s))
-unfolding fromStr readNumber paintAnswerNumber bind
+answer-read : (s : List ℕ) → paintOr (fromStr s) ≡ thenAdmitted (λ e. noPaint + e .number) (admitText s) (readNumber (trimStart s) (trimOf s))
+unfolding fromStr readNumber paintOr refusalOf bind
 answer-read s = go (admitText s) (parsePaint (trimOf s))
   where
     go : (x : Admission) (y : PaintRead)
-        → paintAnswerNumber (thenAdmitted A.Refused x (thenPaintRead (λ e b. A.Refused (refusalOf (drop (b .0) (trimOf s)) e)) y (λ v. A.Value (movePaint (trimStart s) v))))
-        ≡ thenAdmitted (λ e. 0) x (thenPaintRead (λ e b. 0) y (λ v. paintNumber (movePaint (trimStart s) v)))
+        → paintOr (thenAdmitted A.Refused x (thenPaintRead (λ e b. A.Refused (refusalOf (drop (b .0) (trimOf s)) e)) y (λ v. A.Value (movePaint (trimStart s) v))))
+        ≡ thenAdmitted (λ e. noPaint + e .number) x (thenPaintRead (λ e b. noPaint + numberOf (e .trouble)) y (λ v. paintNumber (movePaint (trimStart s) v)))
     go M.Admitted (R.Value v) = refl
     go M.Admitted (R.Refused e b) = refl
     go (M.Refused e) y = refl
 
 -- a text that is too long
-pub long-told : (s : List ℕ) → 4096 < length s → orTold 0 (paintAnswerNumber (fromStr s)) ≡ paintAnswerNumber (fromStr s)
+pub long-told : (s : List ℕ) → 4096 < length s → orTold (noPaint + 1) (paintOr (fromStr s)) ≡ paintOr (fromStr s)
 unfolding admitText
-long-told s h = right 0 (paintAnswerNumber (fromStr s)) (rw (answer-read s) (simp (lt-leb (length s) 4096 h)))
+long-told s h = right (noPaint + 1) (paintOr (fromStr s)) (rw (answer-read s) (simp (lt-leb (length s) 4096 h)))
 
 -- x and y are what the tests of the first and the last byte answered, r what is told of the part between
 pub part-told : (s : List ℕ) (a e r : ℕ) {x y : Bool} → a ≡ scan isSpace s 0 → a < e → e ≤ length s → scan isSpace s e ≡ length s → length s ≤ 4096
     → x ≡ within 33 126 (getD s a 0) → y ≡ within 33 126 (getD s (e - 1) 0) → (x && y) ≡ true
     → orTold r (innerNumber a (take (e - a) (drop a s))) ≡ innerNumber a (take (e - a) (drop a s))
-    → orTold r (paintAnswerNumber (fromStr s)) ≡ paintAnswerNumber (fromStr s)
+    → orTold r (paintOr (fromStr s)) ≡ paintOr (fromStr s)
 unfolding innerNumber
 part-told s a e r {x} {y} p h i k small f l b q = rw inner q
   where
@@ -68,7 +66,7 @@ part-told s a e r {x} {y} p h i k small f l b q = rw inner q
     j : true ≡ within 33 126 (getD s (e - 1) 0)
     j = sym (and-second x y b) ∙ l
 
-    inner : paintAnswerNumber (fromStr s) ≡ innerNumber a (take (e - a) (drop a s))
+    inner : paintOr (fromStr s) ≡ innerNumber a (take (e - a) (drop a s))
     inner =
         let w : trimOf s ≡ take (e - a) (drop a s) = trimmed-is s a e p h v g j in
         rw (answer-read s, trimmed-from s a e p h v g j, w)
@@ -77,22 +75,26 @@ part-told s a e r {x} {y} p h i k small f l b q = rw inner q
         (λ u. rw w at (trim-utf8 s u)) (trimmed-utf8 s a e p h v g j))
 
 -- `&text[0..]` is the text
-module _ (s : List ℕ) (r : ℕ) (q : orTold r (paintAnswerNumber (fromStr (take (length s - 0) (drop 0 s)))) ≡ paintAnswerNumber (fromStr (take (length s - 0) (drop 0 s)))) where
-  pub told-answer : r < noPaint → r ≡ paintAnswerNumber (fromStr s)
-  told-answer h = told-is r (paintAnswerNumber (fromStr s)) h (rw rest-part at q)
+module _ (s : List ℕ) (r : ℕ) (q : orTold r (paintOr (fromStr (take (length s - 0) (drop 0 s)))) ≡ paintOr (fromStr (take (length s - 0) (drop 0 s)))) where
+  pub told-answer : r < untold → r ≡ paintOr (fromStr s)
+  told-answer h = told-is r (paintOr (fromStr s)) h (rw rest-part at q)
 
-  pub told-paint : {v : Paint} → v ≡ decodedPaint r → (ltb 0 r && ltb r noPaint) ≡ true → A.Value v ≡ fromStr s
-  told-paint e h =
-      rw e (paint-told s r (told-answer (ltb-true r noPaint (and-second (ltb 0 r) (ltb r noPaint) h))) (ltb-true 0 r (and-first (ltb 0 r) (ltb r noPaint) h)))
+  pub told-paint : {v : Paint} → v ≡ decodedPaint r → r < noPaint → A.Value v ≡ fromStr s
+  told-paint e h = rw e (paint-told s r (told-answer (omega arith)) h)
 
--- the plain reader's answer r as a number
-module _ (s : List ℕ) {r : PaintAnswer} (q : r ≡ fromStr s) where
-  pub value-number : (v : Paint) {n : ℕ} → r ≡ A.Value v → n ≡ paintNumber v → n ≡ paintAnswerNumber (fromStr s)
-  unfolding paintAnswerNumber
-  value-number v f h = h ∙ ap paintAnswerNumber (sym f ∙ q)
+-- a paint's refusal: a text that may not be read, or a fault in a part of it. 4 and 5 tell nothing else
+pub paint-bare : (s : List ℕ) (e : Refusal) → fromStr s ≡ A.Refused e → (n : ℕ) → e .number ≡ n → 3 < n → n < 6 → e ≡ bareRefusal n
+unfolding fromStr bind refusalOf
+paint-bare s e q n k l h = go (admitText s) refl (parsePaint (trimOf s)) q
+  where
+    same : {x : Refusal} → A.Refused x ≡ A.Refused e → x ≡ e
+    same h = cc
 
-  pub refusal-number : (e : Refusal) → r ≡ A.Refused e → 0 ≡ paintAnswerNumber (fromStr s)
-  unfolding paintAnswerNumber
-  refusal-number e f = ap paintAnswerNumber (sym f ∙ q)
-
-pub ruleset answered = (told-answer, told-paint, value-number, refusal-number, readings)
+    go : (x : Admission) → admitText s ≡ x → (y : PaintRead)
+        → thenAdmitted A.Refused x (thenPaintRead (λ f b. A.Refused (refusalOf (drop (b .0) (trimOf s)) f)) y (λ v. A.Value (movePaint (trimStart s) v))) ≡ A.Refused e → e ≡ bareRefusal n
+    go M.Admitted a (R.Value v) h = let z : _≡_ {A = ℕ} 0 1 = cc in absurd (omega arith)
+    go M.Admitted a (R.Refused f b) m =
+        let z = same m in
+        let g : numberOf (f .trouble) ≡ n = ap (λ x. x .number) z ∙ k in
+        sym z ∙ fault-bare (drop (b .0) (trimOf s)) f n g h
+    go (M.Refused g) a y m = let z = same m in let x : g .number ≡ n = ap (λ x. x .number) z ∙ k in absurd (omega (arith, admit-low s g a))

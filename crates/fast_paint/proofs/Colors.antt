@@ -1,17 +1,19 @@
 -- A text that is no link: a keyword, a colour, or no paint.
-use Prim.Native.Nat.{ℕ, suc, _+_, _*_, _≤_, _<_}
-use mathlib.Core.Bool.{Bool, true, false, cond}
+use Prim.Native.Nat.{ℕ, suc, _+_, _-_, _*_, _≤_, _<_}
+use mathlib.Core.Bool.{Bool, true, false, _||_, cond}
 use mathlib.Core.List.{List, [], _∷_}
 use mathlib.Core.Path.{_≡_, refl, sym, _∙_}
 use native.Mathlib.Omega.{arith}
-use borrow.Author.Tests.{lt-ltb}
-use lib.Dec.{eqb}
+use borrow.Author.Tests.{lt-ltb, le-ltb}
+use lib.Dec.{eqb, ltb}
 use lib.ListN.{length}
 use Rattle.bytes.specs.Bytes.{within}
 use Rattle.utf8.specs.Characters.{keeps, rowOf, lenAt, charLen, walk, utf8Of}
 use Rattle.bytes.specs.Moves.{place}
 use Rattle.stream.specs.Faults.{invalidValue}
-use Rattle.stream.specs.Refusals.{refusalOf, isOutsideDomain, admitUtf8, admitText, thenAdmitted}
+use Rattle.stream.specs.Refusals.{numberOf, refusalOf, isOutsideDomain, admitUtf8, admitText, thenAdmitted}
+use Rattle.stream.specs.declared.Fault.{Fault}
+use Rattle.stream.specs.declared.Refusal.{Refusal}
 use Rattle.bytes.specs.Words.{ascii, same, startsWith, isCurrByteEq}
 use Rattle.stream.specs.declared.Admission.{Admission}
 use Rattle.stream.specs.declared.Admission.the-variants as M
@@ -20,6 +22,7 @@ use Rattle.bytes.proofs.Wording.{same-eq}
 use Rattle.color.specs.Answer as color
 use Rattle.color.specs.Color.{parseColorText}
 use Rattle.color.specs.Moves.{thenColor}
+use Rattle.color.specs.declared.ColorAnswer.{ColorAnswer}
 use Rattle.color.specs.declared.ColorAnswer.the-variants as C
 use Rattle.color.specs.declared.ColorRead.{ColorRead}
 use Rattle.color.specs.declared.ColorRead.the-variants as K
@@ -27,9 +30,10 @@ use Rattle.paint.specs.Moves.{movePaint, thenPaintRead}
 use Rattle.paint.specs.Reading.{parsePlain, parsePaint}
 use Rattle.paint.specs.declared.Paint.the-variants as P
 use Rattle.paint.specs.declared.PaintRead.the-variants as R
-use Rattle.packed.specs.Numbers.{noColor, colors, fallbacks, fallbackNumber, paintNumber, colorAnswerNumber, colorOr}
+use Rattle.packed.specs.Numbers.{noColor, noPaint, colors, fallbacks, fallbackNumber, paintNumber, colorOr}
 use Rattle.packed.proofs.Decoding.{number-back, color-told, color-refused}
-use Rattle.fast_paint.specs.Told.{orTold, keywordOf, readNumber, innerNumber, withColor}
+use Rattle.fast_color.proofs.Bare.{fault-within, admit-low}
+use Rattle.fast_paint.specs.Told.{orTold, keywordOf, readNumber, innerNumber, withColor, uncolored}
 use Rattle.fast_paint.proofs.Tells.{right}
 
 -- what the number of a colour's text tells
@@ -38,17 +42,12 @@ module _ (t : List ℕ) (v : ℕ) (q : v ≡ colorOr (color.fromStr t)) where
   unfolding withColor fallbackNumber
   with-color n h = rw (← color-told t v q h) (simp (number-back v h))
 
-  pub with-none : (n : ℕ) → noColor ≤ v → 0 ≡ withColor n (color.fromStr t)
+  pub with-none : (n : ℕ) → noColor ≤ v → noPaint + (v - noColor) ≡ withColor n (color.fromStr t)
   unfolding withColor
-  with-none n h = rw (color-refused t v q h .1) refl
-
-  color-value : v < noColor → 6 + v * colors ≡ colorAnswerNumber (color.fromStr t)
-  unfolding colorAnswerNumber paintNumber
-  color-value h = rw (← color-told t v q h) (simp (number-back v h))
-
-  color-none : noColor ≤ v → 0 ≡ colorAnswerNumber (color.fromStr t)
-  unfolding colorAnswerNumber
-  color-none h = rw (color-refused t v q h .1) refl
+  with-none n h =
+      let r = color-refused t v q h in
+      let e : v - noColor ≡ r .0 .number = omega (arith, r .1 .1) in
+      rw (r .1 .0, e) refl
 
 -- a keyword
 keyword-word : (by : ℕ) (t w : List ℕ) → same t w ≡ true → keywordOf w ≡ innerNumber by w → keywordOf t ≡ innerNumber by t
@@ -90,29 +89,66 @@ plain-paint t q e =
     let w = no-word (same t (ascii "none")) (same t (ascii "inherit")) (same t (ascii "currentColor")) (same t (ascii "context-fill")) (same t (ascii "context-stroke")) q in
     simp (w .0, w .1, w .2, w .3, w .4, curr-starts t e)
 
-plain-inner : (by : ℕ) (t : List ℕ) → parsePaint t ≡ parsePlain t → colorAnswerNumber (color.fromStr t) ≡ innerNumber by t
-unfolding innerNumber readNumber parsePlain movePaint colorAnswerNumber color.fromStr
-plain-inner by t w = rw w (go (admitText t) (parseColorText t))
+abbrev shown : ColorAnswer → ℕ
+shown (C.Value c) = paintNumber (P.Color c)
+shown (C.Refused e) = uncolored (e .number)
+
+fault-shown : (e : Fault) → uncolored (numberOf (e .trouble)) ≡ noPaint + numberOf (cond (isOutsideDomain e) e (invalidValue (e .at .0)) .trouble)
+unfolding uncolored isOutsideDomain numberOf
+fault-shown e =
+    let n = numberOf (e .trouble) in
+    let l : ltb n 4 ≡ false = le-ltb n 4 (omega (arith, fault-within (e .trouble) .low)) in
+    either (eqb n 10) (λ f. simp (l, f)) (λ f. simp (l, f))
+
+barred-shown : (n : ℕ) → n < 3 → uncolored n ≡ noPaint + n
+unfolding uncolored
+barred-shown n h = simp (lt-ltb n 4 (omega arith))
+
+plain-inner : (by : ℕ) (t : List ℕ) → parsePaint t ≡ parsePlain t → shown (color.fromStr t) ≡ innerNumber by t
+unfolding innerNumber readNumber parsePlain movePaint color.fromStr refusalOf
+plain-inner by t w = rw w (go (admitText t) refl (parseColorText t))
   where
-    go : (x : Admission) (r : ColorRead)
-        → colorAnswerNumber (thenAdmitted C.Refused x (thenColor (λ e. C.Refused (refusalOf t e)) r (λ c p. C.Value c)))
-        ≡ thenAdmitted (λ e. 0) x
-        (thenPaintRead (λ e b. 0)
+    go : (x : Admission) → admitText t ≡ x → (r : ColorRead)
+        → shown (thenAdmitted C.Refused x (thenColor (λ e. C.Refused (refusalOf t e)) r (λ c p. C.Value c)))
+        ≡ thenAdmitted (λ e. noPaint + e .number) x
+        (thenPaintRead (λ e b. noPaint + numberOf (e .trouble))
         (thenColor (λ e. cond (isOutsideDomain e) (R.Refused e (place 0)) (R.Refused (invalidValue (e .at .0)) (place 0))) r (λ c p. R.Value (P.Color c)))
         (λ v. paintNumber (movePaint by v)))
-    go M.Admitted (K.Value c p) = refl
-    go M.Admitted (K.Refused e) = either (isOutsideDomain e) (λ f. simp f) (λ f. simp f)
-    go (M.Refused e) r = refl
+    go M.Admitted k (K.Value c p) = refl
+    go M.Admitted k (K.Refused e) = fault-shown e ∙ either (isOutsideDomain e) (λ f. simp f) (λ f. simp f)
+    go (M.Refused e) k r = barred-shown (e .number) (admit-low t e k)
 
 -- b and k are what the tests of the first byte and of the keywords answered, v is the colour's number
 module _ (by : ℕ) (t : List ℕ) (v : ℕ) {b : Bool} {k : ℕ} (u : b ≡ isCurrByteEq t 0 117) (z : b ≡ false) (w : k ≡ keywordOf t) (s : k ≤ 0) (q : v ≡ colorOr (color.fromStr t)) where
-  inner-is : colorAnswerNumber (color.fromStr t) ≡ innerNumber by t
+  inner-is : shown (color.fromStr t) ≡ innerNumber by t
   inner-is = plain-inner by t (plain-paint t (omega arith) (sym u ∙ z))
 
   pub inner-color : v < noColor → orTold (6 + v * colors) (innerNumber by t) ≡ innerNumber by t
-  inner-color h = right (6 + v * colors) (innerNumber by t) (color-value t v q h ∙ inner-is)
+  unfolding paintNumber
+  inner-color h =
+      let x : 6 + v * colors ≡ shown (color.fromStr t) = rw (← color-told t v q h) (simp (number-back v h)) in
+      right (6 + v * colors) (innerNumber by t) (x ∙ inner-is)
 
-  pub inner-none : noColor ≤ v → orTold 0 (innerNumber by t) ≡ innerNumber by t
-  inner-none h = right 0 (innerNumber by t) (color-none t v q h ∙ inner-is)
+  pub inner-none : {r : ℕ} → noColor ≤ v → r ≡ uncolored (v - noColor) → orTold r (innerNumber by t) ≡ innerNumber by t
+  inner-none {r} h f =
+      let g = color-refused t v q h in
+      let e : v - noColor ≡ g .0 .number = omega (arith, g .1 .1) in
+      let x : r ≡ shown (color.fromStr t) = rw (g .1 .0, ← e) f in
+      right r (innerNumber by t) (x ∙ inner-is)
 
-pub ruleset colored = (with-color, with-none, keyword-told, inner-color, inner-none)
+-- the refusals that are told are few
+pub refusal-few : (v : ℕ) → v < noColor + 32 → noColor ≤ v → v - noColor < 32
+refusal-few v h l = omega arith
+
+module _ (n : ℕ) where
+  pub kept-number : (ltb n 4 || eqb n 10) ≡ true → noPaint + n ≡ uncolored n
+  unfolding uncolored
+  kept-number h = simp h
+
+  pub other-number : (ltb n 4 || eqb n 10) ≡ false → noPaint + 5 ≡ uncolored n
+  unfolding uncolored
+  other-number h = simp h
+
+pub ruleset uncoloring = (kept-number, other-number)
+
+pub ruleset colored = (with-color, with-none, keyword-told, inner-color, inner-none, refusal-few)

@@ -4,11 +4,10 @@ use mathlib.Core.Path.{_≡_}
 use borrow.Author.Tests.{lt-ltb}
 use lib.Dec.{ltb}
 use Rattle.bytes.proofs.Ranges.{either}
-use Rattle.packed.specs.Numbers.{noPaint}
-use Rattle.fast_paint.specs.Told.{orTold}
+use Rattle.fast_paint.specs.Told.{untold, orTold}
 
 pub right : (r x : ℕ) → r ≡ x → orTold r x ≡ x
-right r x e = either (ltb r noPaint) (λ t. simp t e) (λ t. simp t)
+right r x e = either (ltb r untold) (λ t. simp t e) (λ t. simp t)
 
-pub told-is : (r x : ℕ) → r < noPaint → orTold r x ≡ x → r ≡ x
-told-is r x h q = simp (lt-ltb r noPaint h) at q
+pub told-is : (r x : ℕ) → r < untold → orTold r x ≡ x → r ≡ x
+told-is r x h q = simp (lt-ltb r untold h) at q

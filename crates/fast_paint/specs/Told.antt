@@ -1,12 +1,12 @@
 -- What the numbers of the private readers stand for; only their contracts speak of it.
 use Prim.Native.Nat.{ℕ, _+_}
-use mathlib.Core.Bool.{cond}
+use mathlib.Core.Bool.{_||_, cond}
 use mathlib.Core.List.{List}
-use lib.Dec.{leb, ltb}
+use lib.Dec.{eqb, leb, ltb}
 use lib.ListN.{length, drop}
 use Rattle.bytes.specs.Bytes.{isSpace}
 use Rattle.bytes.specs.Flow.{bind}
-use Rattle.stream.specs.Refusals.{admitText, thenAdmitted}
+use Rattle.stream.specs.Refusals.{numberOf, admitText, thenAdmitted}
 use Rattle.bytes.specs.Scan.{scan}
 use Rattle.bytes.specs.Words.{ascii, same}
 use Rattle.color.specs.Answer as color
@@ -17,9 +17,13 @@ use Rattle.paint.specs.Reading.{parsePaint}
 use Rattle.paint.specs.declared.PaintFallback.the-variants as F
 use Rattle.packed.specs.Numbers.{noPaint, fallbackNumber, paintNumber}
 
+-- the first number that tells nothing: refusals are told below it, by noPaint and their number
+abbrev pub untold : ℕ
+untold = noPaint + 32
+
 -- the number told or, where nothing is told, x
 abbrev pub orTold : ℕ → ℕ → ℕ
-orTold r x = cond (ltb r noPaint) r x
+orTold r x = cond (ltb r untold) r x
 
 -- a keyword's kind, 0 for another text
 unfoldable pub keywordOf : List ℕ → ℕ
@@ -30,18 +34,22 @@ keywordOf t =
     (cond (same t (ascii "context-fill")) 4
     (cond (same t (ascii "context-stroke")) 5 0))))
 
--- what a trimmed text reads as, with `by` bytes trimmed before it; 0 for a refusal
+-- what a trimmed text reads as, with `by` bytes trimmed before it, or its refusal
 unfoldable pub readNumber : ℕ → List ℕ → ℕ
-readNumber by t = thenPaintRead (λ e b. 0) (parsePaint t) (λ v. paintNumber (movePaint by v))
+readNumber by t = thenPaintRead (λ e b. noPaint + numberOf (e .trouble)) (parsePaint t) (λ v. paintNumber (movePaint by v))
 
--- the same, 0 for a text that may not be read
+-- the same, or the refusal of a text that may not be read
 unfoldable pub innerNumber : ℕ → List ℕ → ℕ
-innerNumber by t = thenAdmitted (λ e. 0) (admitText t) (readNumber by t)
+innerNumber by t = thenAdmitted (λ e. noPaint + e .number) (admitText t) (readNumber by t)
 
--- a link whose number is n, with the colour answered as its fallback; 0 for a refusal
+-- a plain colour's refusal, by its number: a paint's is 5, but where the text may not be read, or for 10
+unfoldable pub uncolored : ℕ → ℕ
+uncolored n = noPaint + cond (ltb n 4 || eqb n 10) n 5
+
+-- a link whose number is n, with the colour answered as its fallback, or the colour's refusal
 unfoldable pub withColor : ℕ → ColorAnswer → ℕ
 withColor n (C.Value c) = n + fallbackNumber (F.Color c)
-withColor n (C.Refused e) = 0
+withColor n (C.Refused e) = noPaint + e .number
 
 -- with the fallback that a text reads as
 unfoldable pub withFallback : ℕ → List ℕ → ℕ

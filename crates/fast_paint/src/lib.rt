@@ -7,9 +7,9 @@ ghost use Rattle.bytes.specs.Bytes.{within, isSpace};
 ghost use Rattle.bytes.specs.Scan.{scan};
 ghost use Rattle.bytes.specs.Words.{ascii, startsWith};
 ghost use Rattle.funciri.specs.Link.{isQuote};
-ghost use Rattle.packed.specs.Numbers.{places, starts, lens, fallbacks, paintAnswerNumber};
+ghost use Rattle.packed.specs.Numbers.{places, starts, lens, fallbacks, paintOr};
 ghost use Rattle.paint.specs.Answers.{fromStr};
-ghost use Rattle.fast_paint.specs.Told.{innerNumber, keywordOf, orTold, withFallback, withRest};
+ghost use Rattle.fast_paint.specs.Told.{innerNumber, keywordOf, orTold, withFallback, withRest, uncolored};
 use bytes::Place;
 use packed::COLOR;
 use packed::FALLBACK;
@@ -22,6 +22,14 @@ use paint::PaintAnswer;
 mod numbered;
 
 pub use numbered::number;
+
+// The answer where nothing is told. Below it a refusal is told, by NO_PAINT and its number.
+const UNTOLD: u64 = 0x8000_0000_0000_0020;
+
+// A text over the limit, and one that is no paint.
+const TOO_LONG: u64 = 0x8000_0000_0000_0001;
+
+pub const INVALID: u64 = 0x8000_0000_0000_0005;
 
 // A keyword's kind, 0 for another text.
 fn keyword(text: &[u8]) -> u64
@@ -70,7 +78,7 @@ fn with_fallback(text: &[u8], link: u64) -> u64
     if v < NO_COLOR {
         return link + (3 * FALLBACK + v * COLOR);
     }
-    0
+    NO_PAINT + (v - NO_COLOR)
 }
 
 // What follows a link whose number is `link`: nothing, or a fallback.
@@ -105,7 +113,7 @@ fn told_quoted(text: &[u8], by: usize, quote: u8) -> u64
             return with_rest(text, Place(q + 2), link_number(by + 6, q - 6));
         }
     }
-    NO_PAINT
+    UNTOLD
 }
 
 // A text that begins with a link; `by` bytes were trimmed before it.
@@ -122,13 +130,13 @@ fn told_linked(text: &[u8], by: usize) -> u64
             if (5 < q) & bytes::is_curr_byte_eq(text, end, b')') {
                 return with_rest(text, Place(q + 1), link_number(by + 5, q - 5));
             }
-            return NO_PAINT;
+            return UNTOLD;
         }
         if (b == b'\'') | (b == b'"') {
             return told_quoted(text, by, b);
         }
     }
-    NO_PAINT
+    UNTOLD
 }
 
 // A text without white space at its ends.
@@ -148,7 +156,18 @@ fn told_inner(text: &[u8], by: usize) -> u64
     if v < NO_COLOR {
         return 6 + v * COLOR;
     }
-    0
+    uncolored(v - NO_COLOR)
+}
+
+// A plain colour that is refused is 5, but where its text may not be read, or for 10.
+fn uncolored(number: u64) -> u64
+    requires { ⌜ number < 32 ⌝ }
+    ensures { λ r. ⌜ r ≡ uncolored number ⌝ }
+{
+    if (number < 4) | (number == 10) {
+        return NO_PAINT + number;
+    }
+    INVALID
 }
 
 // Where the spaces at a text's end begin, from `from` on.
@@ -175,12 +194,12 @@ fn is_inked(b: u8) -> bool
     (b'!' <= b) & (b <= b'~')
 }
 
-// NO_PAINT: nothing is told. Spaces alone are trimmed: that other white space stands at neither end is told by the first and the last byte left.
+// What is told of a whole text at once. Spaces alone are trimmed: that other white space stands at neither end is told by the first and the last byte left.
 fn told(text: &[u8]) -> u64
-    ensures { λ r. ⌜ orTold r (paintAnswerNumber (fromStr (now (text .entry)))) ≡ paintAnswerNumber (fromStr (now (text .entry))) ⌝ }
+    ensures { λ r. ⌜ orTold r (paintOr (fromStr (now (text .entry)))) ≡ paintOr (fromStr (now (text .entry))) ⌝ }
 {
     if 4096 < text.len() {
-        return 0;
+        return TOO_LONG;
     }
     let start = bytes::skip_spaces(text, Place(0));
     let a = start.0;
@@ -190,21 +209,7 @@ fn told(text: &[u8]) -> u64
             return told_inner(&text[a..e], a);
         }
     }
-    NO_PAINT
-}
-
-// As one number, 0 for a refused text.
-pub fn value(text: &[u8]) -> u64
-    ensures { λ r. ⌜ r ≡ paintAnswerNumber (fromStr (now (text .entry))) ⌝ }
-{
-    let v = told(&text[0..]);
-    if v < NO_PAINT {
-        return v;
-    }
-    match paint::from_str(text) {
-        PaintAnswer::Value(paint) => packed::paint_number(paint),
-        PaintAnswer::Refused(_) => 0,
-    }
+    UNTOLD
 }
 
 // A refused text is read by the plain reader, which says why.
@@ -212,7 +217,7 @@ pub fn from_str(text: &[u8]) -> PaintAnswer
     ensures { λ r. ⌜ r ≡ fromStr (now (text .entry)) ⌝ }
 {
     let v = told(&text[0..]);
-    if (0 < v) & (v < NO_PAINT) {
+    if v < NO_PAINT {
         return PaintAnswer::Value(packed::number_paint(v));
     }
     paint::from_str(text)

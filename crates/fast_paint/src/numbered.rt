@@ -3,6 +3,7 @@ ghost use mathlib.Core.Path.{_≡_};
 ghost use Rattle.paint.specs.Answers.{fromStr};
 ghost use Rattle.packed.specs.Numbers.{paintAnswerNumber};
 ghost use Rattle.records.specs.Records.{paintRecord, recordFor};
+use crate::INVALID;
 use crate::told;
 use packed::NO_PAINT;
 use paint::PaintAnswer;
@@ -12,8 +13,12 @@ pub fn number(text: &[u8], answer: &mut [u64; 24]) -> u64
     ensures { λ r. ⌜ now (answer .exit) ≡ recordFor r (paintRecord (fromStr (now (text .entry)))) (now (answer .entry)) ⌝ }
 {
     let v = told(&text[0..]);
-    if (0 < v) & (v < NO_PAINT) {
+    if v < NO_PAINT {
         return v;
+    }
+    if v == INVALID {
+        records::refused(answer, stream::bare_refusal(5));
+        return 0;
     }
     match paint::from_str(text) {
         PaintAnswer::Value(p) => packed::paint_number(p),

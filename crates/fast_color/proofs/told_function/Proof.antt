@@ -1,4 +1,4 @@
-use Rattle.fast_color.proofs.Answers.{functions}
+use Rattle.fast_color.proofs.Answers.{function-ends}
 use borrow.Author.Needs.{needs}
 use Rattle.fast_color.proofs.told_function.Statement.{statement}
 use Rattle.fast_color.proofs.told_function.Tie as tie
@@ -8,10 +8,9 @@ told-function-spec =
     tie.close
     (tie.spec
     (λ c κs. search needs)
-    (λ c. search (functions, needs))
     (λ c. search needs)
     (λ c κs. search needs)
     (λ c. search needs)
     (λ c. search needs)
     (λ c. search needs)
-    (λ c. search (functions, needs)))
+    (λ c. search (function-ends, needs)))

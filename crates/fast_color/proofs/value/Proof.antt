@@ -16,5 +16,7 @@ value-spec =
     (λ c. search needs)
     (λ c κs. search needs)
     (λ c. search needs)
+    (λ c. search needs)
+    (λ c. search needs)
     (λ c. search (valued, needs))
     (λ c. search (valued, needs)))

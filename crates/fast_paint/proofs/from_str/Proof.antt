@@ -1,4 +1,4 @@
-use Rattle.fast_paint.proofs.Answers.{answered}
+use Rattle.fast_paint.proofs.Answers.{told-paint}
 use borrow.Author.Needs.{needs}
 use Rattle.fast_paint.proofs.from_str.Statement.{statement}
 use Rattle.fast_paint.proofs.from_str.Tie as tie
@@ -12,6 +12,6 @@ from-str-spec =
     (λ c. search needs)
     (λ c κs. search needs)
     (λ c κs. search needs)
-    (λ c. search (answered, needs))
+    (λ c. search (told-paint, needs))
     (λ c κs. search needs)
     (λ c. search needs))

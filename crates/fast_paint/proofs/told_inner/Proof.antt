@@ -16,4 +16,5 @@ told-inner-spec =
     (λ c. search needs)
     (λ c. search needs)
     (λ c. search (colored, needs))
+    (λ c κs. search needs)
     (λ c. search (colored, needs)))

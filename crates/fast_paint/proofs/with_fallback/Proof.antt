@@ -25,4 +25,5 @@ with-fallback-spec =
     (λ c. search needs)
     (λ c. search needs)
     (λ c. unfold withFallback fallbackNumber in search (flow, colored, needs) depth 20)
+    (λ c. search needs)
     (λ c. unfold withFallback fallbackNumber in search (flow, colored, needs) depth 20))
