@@ -61,7 +61,7 @@ pub ruleset held = (start-forth, start-inside, start-fits, next-fits)
 abbrev pub coloured : List ℕ → ℕ → Bool
 coloured cs k = eqb (getD cs (k * 3) 0) (nth k .red) && (eqb (getD cs (k * 3 + 1) 0) (nth k .green) && eqb (getD cs (k * 3 + 2) 0) (nth k .blue))
 
-three : (r g b x y z : ℕ) → T (eqb r x && (eqb g y && eqb b z)) → _≡_ {A = Rgb} (record { red = r; green = g; blue = b }) (record { red = x; green = y; blue = z })
+pub three : (r g b x y z : ℕ) → T (eqb r x && (eqb g y && eqb b z)) → _≡_ {A = Rgb} (record { red = r; green = g; blue = b }) (record { red = x; green = y; blue = z })
 three r g b x y z h = go (eqb r x) (eqb g y) (eqb b z) (eqb-true r x) (eqb-true g y) (eqb-true b z) h
   where
     go : (t u v : Bool) → (t ≡ true → r ≡ x) → (u ≡ true → g ≡ y) → (v ≡ true → b ≡ z) → T (t && (u && v))

@@ -3,3 +3,5 @@ pub mod Tables
 pub mod Naming
 pub mod Lent
 pub mod Searches
+pub mod Backs
+pub mod Firsts

@@ -20,7 +20,7 @@ same-not : (a b : List ℕ) → (b ≡ a → ⊥) → same a b ≡ false
 same-not a b f = either (same a b) (λ e. absurd (f (sym (same-eq a b e)))) (λ e. e)
 
 -- the laws of going through any table
-abbrev at : List Keyword → ℕ → Keyword
+abbrev pub at : List Keyword → ℕ → Keyword
 at es k = getD es k (entry "" 0 0 0)
 
 module _ (w : List ℕ) where

@@ -9,6 +9,7 @@ use lib.ListN.{length, getD}
 use Rattle.bytes.specs.Bytes.{isLower, within}
 use Rattle.bytes.proofs.Ranges.{across}
 use Rattle.names.specs.Keywords.{keywords}
+use Rattle.names.specs.Order.{isBefore}
 use Rattle.names.specs.Search.{nth, order}
 use Rattle.names.specs.declared.Order.{Order}
 use Rattle.names.specs.declared.Order.the-variants.{Before, Same, After}
@@ -22,20 +23,14 @@ pub table-count : length keywords ≡ 147
 unfolding keywords
 table-count = refl
 
-isBefore : Order → Bool
-isBefore Before = true
-isBefore Same = false
-isBefore After = false
-
 is-before : (o : Order) → T (isBefore o) → o ≡ Before
-unfolding isBefore
 is-before Before t = refl
 is-before Same t = absurd t
 is-before After t = absurd t
 
 -- the names stand in strictly rising order
 pub table-rises : (k : ℕ) → k + 1 < 147 → order (nth k .name) (nth (k + 1) .name) ≡ Before
-unfolding keywords order isBefore
+unfolding keywords order
 table-rises k h = is-before _ (across (λ j. isBefore (order (nth j .name) (nth (j + 1) .name))) 0 146 tt k (omega arith) (omega arith))
 
 -- any two of them, and not only neighbours

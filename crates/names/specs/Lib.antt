@@ -1,3 +1,5 @@
 pub mod Keywords
 pub mod Look
 pub mod Search
+pub mod Order
+pub mod Back

@@ -1,12 +1,14 @@
--- What the functions of the binary search say to each other.
+-- What the functions of the binary search, and of the walk over the colours, say to each other.
 use Prim.Native.Nat.{ℕ, _+_, _≤_, _<_}
 use mathlib.Core.Bool.{cond}
 use mathlib.Core.List.{List, [], _∷_}
 use mathlib.Core.Path.{_≡_}
 use lib.Dec.{ltb}
-use lib.ListN.{length, getD}
+use lib.ListN.{length, getD, drop}
 use Rattle.bytes.specs.Words.{part}
+use Rattle.names.specs.Back.{Spelt, spelt, nameless, firstNamed}
 use Rattle.names.specs.Keywords.{Keyword, entry, keywords}
+use Rattle.names.specs.declared.Rgb.{Rgb}
 use Rattle.names.specs.declared.Order.{Order}
 use Rattle.names.specs.declared.Order.the-variants.{Before, Same, After}
 
@@ -33,3 +35,11 @@ pub record Narrowed (w : List ℕ) (lo hi : ℕ) : Type 0 where
   pub below : (j : ℕ) → j < lo → nth j .name ≡ w → ⊥
   pub above : (j : ℕ) → hi ≤ j → j < 147 → nth j .name ≡ w → ⊥
   pub upto : hi ≤ 147
+
+-- the name of entry k; 147 stands for none
+unfoldable pub entryName : ℕ → Spelt
+entryName k = cond (ltb k 147) (spelt (nth k .name)) nameless
+
+-- the walk has come to entry k: none before it has the colour
+pub record Walked (x : Rgb) (k : ℕ) : Type 0 where
+  pub still : firstNamed (drop k keywords) x ≡ firstNamed keywords x

@@ -2,9 +2,12 @@
 ghost use mathlib.Core.Path.{_≡_};
 ghost use mathlib.Core.List.{[]};
 ghost use Prim.Native.Nat.{_<_};
+ghost use lib.ListN.{length};
 ghost use Rattle.bytes.specs.Words.{lowered};
 ghost use Rattle.names.specs.Look.{channels, lookUp, namedOf};
-ghost use Rattle.names.specs.Search.{nth, order, Holds};
+ghost use Rattle.names.specs.Search.{nth, order, Holds, entryName};
+ghost use Rattle.names.specs.Back.{spelt, sameColour, firstNamed, nameAnswer, nameOver};
+ghost use Rattle.names.specs.Keywords.{keywords};
 
 pub struct Rgb {
     pub red: u8,
@@ -17,6 +20,13 @@ pub enum Named {
     Keyword(Rgb),
     Transparent,
     Unknown,
+}
+
+// How many bytes of a keyword were written, or why none: too few are lent, or no keyword has the colour.
+pub enum NameWritten {
+    Written(usize),
+    Short,
+    Nameless,
 }
 
 // Each keyword's bytes, one after the other, in strictly rising order.
@@ -314,9 +324,59 @@ fn search(names: &[u8], starts: &[u16], word: &[u8]) -> Named
 }
 
 // The colour that a word names, letter case ignored.
-// A table is copied where it is named: this function alone names those of the search, and lends them.
+// A table is copied where it is named: so a `pub` function names those that its helpers go by, and lends them.
 pub fn from_str(word: &[u8]) -> Named
     ensures { λ r. ⌜ r ≡ namedOf (now (word .entry)) ⌝ }
 {
     search(&NAMES, &STARTS, word)
+}
+
+fn same_colour(a: Rgb, b: Rgb) -> bool
+    ensures { λ r. ⌜ r ≡ sameColour a b ⌝ }
+{
+    (a.red == b.red) & ((a.green == b.green) & (a.blue == b.blue))
+}
+
+// The first entry with a colour, 147 where there is none.
+fn first_with(color: Rgb) -> usize
+    ensures { λ r. ⌜ entryName r ≡ firstNamed keywords color ⌝ }
+{
+    let mut entry: usize = 0;
+    while entry < 147 {
+        if same_colour(colour_of(entry), color) {
+            return entry;
+        }
+        entry += 1;
+    }
+    147
+}
+
+// The name of entry k, where there is room for it.
+fn write_entry(names: &[u8], starts: &[u16], k: usize, out: &mut [u8]) -> NameWritten
+    requires { ⌜ Holds (now names) (now starts) ⌝ }
+    requires { ⌜ k < 147 ⌝ }
+    ensures { λ r. ⌜ r ≡ nameAnswer (spelt (nth k .name)) (length (now (out .entry))) ⌝ }
+    ensures { λ _. ⌜ now (out .exit) ≡ nameOver (spelt (nth k .name)) (now (out .entry)) ⌝ }
+{
+    let a = starts[k] as usize;
+    let e = starts[k + 1] as usize;
+    let name = &names[a..e];
+    if out.len() < name.len() {
+        return NameWritten::Short;
+    }
+    lent::put(out, 0, name);
+    NameWritten::Written(name.len())
+}
+
+// A colour's keyword: the first in the alphabet that has its channels. Nothing is written where it is refused.
+pub fn write_name(color: Rgb, out: &mut [u8]) -> NameWritten
+    ensures { λ r. ⌜ r ≡ nameAnswer (firstNamed keywords color) (length (now (out .entry))) ⌝ }
+    ensures { λ _. ⌜ now (out .exit) ≡ nameOver (firstNamed keywords color) (now (out .entry)) ⌝ }
+{
+    let k = first_with(color);
+    if k < 147 {
+        write_entry(&NAMES, &STARTS, k, out)
+    } else {
+        NameWritten::Nameless
+    }
 }
