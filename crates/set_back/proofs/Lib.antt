@@ -1,0 +1,5 @@
+pub mod Digits
+pub mod Readings
+pub mod Settling
+pub mod Words
+pub mod Back
