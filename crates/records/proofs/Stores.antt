@@ -1,25 +1,15 @@
 -- The laws of the writing of a record: stores of single entries, and of a part, into a record that stands among others.
 use Prim.Native.Nat.{ℕ, zero, suc, _+_, _≤_, _<_}
-use mathlib.Core.List.{List, [], _∷_, _++_, append-assoc}
+use mathlib.Core.List.{List, [], _∷_, _++_}
 use mathlib.Core.Path.{_≡_, refl, sym, ap, _∙_}
-use native.Mathlib.Nat.{add-zero, zero-add, suc-add}
+use native.Mathlib.Nat.{zero-add, suc-add}
 use native.Mathlib.Omega.{arith}
-use lib.ListN.{length, take, drop, getD, set, length-set, length-append, List·getD-append}
-use lib.Seq.{paste, paste-zero, paste-suc, length-paste, length-paste-head, take-paste, drop-paste, length-take-le, take-all, take-append-add, drop-drop, set-append-left, take-set-lt, getD-append-add, getD-take}
+use lib.ListN.{length, take, drop, getD, set, length-append, List·getD-append}
+use lib.Seq.{paste, paste-zero, paste-suc, length-paste, length-paste-head, length-take-le, set-append-left, take-set-lt, getD-append-add, getD-take}
+use Rattle.lent.proofs.Pastes.{parts}
 use Rattle.filter_functions.specs.declared.FilterStep.{FilterStep}
 use Rattle.length.specs.declared.LengthStep.{LengthStep}
 use Rattle.records.specs.Records.{row, lengthStepRecord, filterRecord}
-
--- the stores of r's entries 0 .. k from `at` on, one after the other
-unfoldable pub stored : List ℕ → ℕ → List ℕ → ℕ → List ℕ
-stored o at r zero = set o at (getD r 0 0)
-stored o at r (suc k) = set (stored o at r k) (at + suc k) (getD r (suc k) 0)
-
-module _ (o : List ℕ) (at : ℕ) (r : List ℕ) where
-  pub stored-paste : (k : ℕ) → at + suc k ≤ length o → suc k ≤ length r → stored o at r k ≡ paste o at r (suc k)
-  unfolding stored
-  stored-paste zero l m = rw (← paste-zero o at r, add-zero at) at (paste-suc o at r 0 0 (omega arith) (omega arith))
-  stored-paste (suc k) l m = rw (stored-paste k (omega arith) (omega arith)) (paste-suc o at r (suc k) 0 (omega arith) (omega arith))
 
 set-append-add : (p q : List ℕ) (j a : ℕ) → set (p ++ q) (length p + j) a ≡ p ++ set q j a
 set-append-add [] q j a = rw (zero-add j)
@@ -59,17 +49,6 @@ record-part {o} xs k r w l m j v (suc n) h y =
     record-set xs k (paste r j v n) (record-part xs k r w l m j v n (omega arith) (omega arith)) l (omega arith) (j + n) (omega arith) (getD v n 0) in
     let q : set (paste r j v n) (j + n) (getD v n 0) ≡ paste r j v (suc n) = paste-suc r j v n 0 (omega arith) (omega arith) in
     sym p ∙ ap (λ i. set (paste o (k + j) v n) i (getD v n 0)) s ∙ e ∙ ap (λ x. paste xs k x 24) q
-
--- two parts stored, one behind the other
-parts : {p q : List ℕ} (o : List ℕ) (at : ℕ) (a b : List ℕ) (i j : ℕ) → p ≡ paste o at a i → q ≡ paste p (at + i) b j → length a ≡ i → j ≤ length b → at + (i + j) ≤ length o
-    → q ≡ paste o at (a ++ b) (i + j)
-parts o at a b i j e f g h l =
-    let t : take (at + i) (paste o at a i) ≡ take at o ++ take i a = take-paste o at a i (omega arith) (omega arith) in
-    let d : drop (at + i + j) (paste o at a i) ≡ drop (at + i + j) o =
-    sym (drop-drop j (at + i) (paste o at a i)) ∙ rw (drop-paste o at a i (omega arith) (omega arith)) (drop-drop j (at + i) o) in
-    let s : at + (i + j) ≡ at + i + j = omega arith in
-    let u : take (i + j) (a ++ b) ≡ a ++ take j b = rw g at (take-append-add a b j) in
-    rw (f, e, t, d, s, u, take-all i a (omega arith), append-assoc (take at o) a (take j b))
 
 -- a record stored by thirds
 pub thirds : {p q r : List ℕ} (o : List ℕ) (k : ℕ) (a b c : List ℕ) → p ≡ paste o k a 8 → q ≡ paste p (k + 8) b 8 → r ≡ paste q (k + 16) c 8 → length a ≡ 8 → length b ≡ 8 → length c ≡ 8 → k + 24 ≤ length o

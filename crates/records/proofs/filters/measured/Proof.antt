@@ -1,4 +1,4 @@
-use Rattle.records.proofs.Stores.{stored, stored-paste}
+use Rattle.lent.proofs.Pastes.{stored, stored-paste}
 use lib.ListN.{length-set}
 use mathlib.Core.List.{[], _∷_}
 use borrow.Author.Needs.{needs}

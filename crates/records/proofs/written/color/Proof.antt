@@ -1,6 +1,6 @@
 use lib.ListN.{length-set}
 use Rattle.records.specs.Records.{colorEntries}
-use Rattle.records.proofs.Stores.{stored, stored-paste}
+use Rattle.lent.proofs.Pastes.{stored, stored-paste}
 use borrow.Author.Needs.{needs}
 use Rattle.records.proofs.written.color.Statement.{statement}
 use Rattle.records.proofs.written.color.Tie as tie

@@ -1,6 +1,6 @@
 use lib.ListN.{length-set}
 use mathlib.Core.List.{[], _∷_}
-use Rattle.records.proofs.Stores.{stored, stored-paste}
+use Rattle.lent.proofs.Pastes.{stored, stored-paste}
 use borrow.Author.Needs.{needs}
 use Rattle.records.proofs.written.eight.Statement.{statement}
 use Rattle.records.proofs.written.eight.Tie as tie
