@@ -1,13 +1,14 @@
-/* Homeludaf's C boundary: SVG colours, lengths, angles, links, paints and filter values, read by proved code.
+/* Homeludaf's C boundary: SVG colours, lengths, angles, links, paints and filter values, read by proved code; colours written by it, too.
  *
  * A text is a pointer, which is not null, and its length in bytes; it needs no end mark and no promise: one that is too long or not UTF-8 is refused.
  * Each call fills whole answers, 24 numbers of 64 bits each; two give a value as one number and fill an answer for a refusal alone. The layouts are those
- * of crates/records/specs/Records.antt and crates/packed/specs/Numbers.antt, which the proofs cite.
+ * of crates/records/specs/Records.antt, crates/counts/specs/Counts.antt and crates/packed/specs/Numbers.antt, which the proofs cite.
  * Places and parts are counted in bytes of the text, positions in characters from 1. What an answer does not use is 0.
  */
 #ifndef HOMELUDAF_H
 #define HOMELUDAF_H
 
+#include <stdbool.h>
 #include <stddef.h>
 #include <stdint.h>
 #include <string.h>
@@ -33,7 +34,9 @@ enum homeludaf_code {
     HOMELUDAF_NEGATIVE_VALUE = 12,
     HOMELUDAF_INVALID_ANGLE = 13,
     HOMELUDAF_MISSING_SHADOW_OFFSET = 14,
-    HOMELUDAF_INVALID_URL = 15
+    HOMELUDAF_INVALID_URL = 15,
+    HOMELUDAF_BUFFER_TOO_SHORT = 16,       /* what is lent has no room for the text */
+    HOMELUDAF_NO_KEYWORD = 17              /* no keyword has the colour, or it is not opaque */
 };
 
 /* a step of a list */
@@ -119,6 +122,7 @@ struct homeludaf_answer {
         struct homeludaf_number length;
         struct { struct homeludaf_number given; uint64_t degrees_bits; } angle;
         struct homeludaf_part link;
+        uint64_t written;                              /* bytes, of a colour that was set back */
         struct { uint64_t kind; struct homeludaf_part link; uint64_t fallback; struct homeludaf_rgba color; } paint;
         struct { uint64_t whose; struct homeludaf_part part; } inherited;
         struct {
@@ -170,6 +174,13 @@ void homeludaf_func_iri(const uint8_t *text, size_t length, struct homeludaf_ans
 void homeludaf_paint(const uint8_t *text, size_t length, struct homeludaf_answer *answer);
 void homeludaf_inherited(const uint8_t *own, size_t own_length, const uint8_t *parent, size_t parent_length, struct homeludaf_answer *answer);
 void homeludaf_filter_next(const uint8_t *text, size_t length, size_t place, struct homeludaf_answer *answer);
+
+/* A colour as text, written to the front of `out`, which is not null and lends `length` bytes. As many as the text has are enough; those behind it stay, and
+ * a refusal, 16 or 17, writes none. What is written reads back as the colour by homeludaf_color. At most 9 bytes of hex digits, and 20 of a keyword.
+ * Hex is `#` and two small digits for each channel, with `short_form` one digit where each channel, alpha too, is one digit twice; an alpha of 255 is left out.
+ * The keyword is the first in the alphabet that has the channels, for an alpha of 255 alone; where there is none it is 17, however few bytes are lent. */
+void homeludaf_hex(uint8_t red, uint8_t green, uint8_t blue, uint8_t alpha, bool short_form, uint8_t *out, size_t length, struct homeludaf_answer *answer);
+void homeludaf_keyword(uint8_t red, uint8_t green, uint8_t blue, uint8_t alpha, uint8_t *out, size_t length, struct homeludaf_answer *answer);
 
 /* A colour or a paint as one number. A value is the number, and `answer` stays as it came. A refusal is 0, and fills `answer` as homeludaf_color or
  * homeludaf_paint would. */

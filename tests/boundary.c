@@ -186,6 +186,37 @@ static void packed_numbers(void)
         both_packed(wide, n);
 }
 
+/* Calls with `size` of the 12 bytes of `lent`, which show what was not written. */
+#define SET_BACK(call, size, ...) (memset(lent, 0xa5, sizeof lent), memset(&a, 0xff, sizeof a), call(__VA_ARGS__, lent, size, &a))
+
+static void set_back(void)
+{
+    struct homeludaf_answer a;
+    uint8_t lent[12];
+
+    SET_BACK(homeludaf_hex, 9, 17, 34, 51, 128, true);
+    show("hex", &a);
+    expect("hex", a.code == HOMELUDAF_OK && a.result.written == 9 && a.result.entries[1] == 0 && memcmp(lent, "#11223380\xa5\xa5\xa5", 12) == 0);
+
+    SET_BACK(homeludaf_hex, 12, 17, 34, 51, 255, true);
+    expect("short hex", a.result.written == 4 && memcmp(lent, "#123\xa5\xa5\xa5\xa5\xa5\xa5\xa5\xa5", 12) == 0);
+
+    SET_BACK(homeludaf_hex, 6, 17, 34, 51, 255, false);
+    show("hex refused", &a);
+    expect("hex refused", a.code == HOMELUDAF_BUFFER_TOO_SHORT && a.position == 0 && a.result.written == 0 && lent[0] == 0xa5);
+
+    SET_BACK(homeludaf_keyword, 4, 0, 255, 255, 255);
+    show("keyword", &a);
+    expect("keyword", a.code == HOMELUDAF_OK && a.result.written == 4 && memcmp(lent, "aqua\xa5", 5) == 0);
+
+    SET_BACK(homeludaf_keyword, 3, 0, 255, 255, 255);
+    expect("keyword too long", a.code == HOMELUDAF_BUFFER_TOO_SHORT && a.result.written == 0 && lent[0] == 0xa5);
+
+    SET_BACK(homeludaf_keyword, 0, 0, 0, 0, 0);
+    show("no keyword", &a);
+    expect("no keyword", a.code == HOMELUDAF_NO_KEYWORD && a.result.written == 0 && lent[0] == 0xa5);
+}
+
 static void length_steps(void)
 {
     struct homeludaf_answer a;
@@ -251,6 +282,7 @@ int main(void)
     whole_colors();
     other_whole_texts();
     packed_numbers();
+    set_back();
     length_steps();
     filter_steps();
     many_steps();

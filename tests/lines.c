@@ -1,8 +1,9 @@
 /* Answers cases over the archive, by the line protocol of the runs (docs/RUNS.md): one case a line in, one answer a line out.
  *
  *     lines base        the cases of the program `replay`, with the same answers
+ *     lines             these, and the writers of colours (document 02)
  *
- * A case is a call and its operands, one space between: a text is its bytes, two lower-case hex digits each, `-` for none; a list place is decimal.
+ * A case is a call and its operands, one space between: a text is its bytes, two lower-case hex digits each, `-` for none; a number is decimal.
  * A line that is no case gets the answer `?` alone. */
 #include <inttypes.h>
 #include <stdbool.h>
@@ -18,14 +19,19 @@ struct bytes {
     size_t length;
 };
 
+enum { LENT = 4096 };                                   /* the most bytes that a case lends */
+
 struct operands {
     uint64_t place;
     struct bytes texts[2];
+    uint64_t flag;
+    uint64_t size;                                     /* of the bytes that are lent */
+    uint64_t channels[4];
 };
 
 struct call {
     const char *name;
-    const char *takes;                                 /* its operands: p a list place, t a text */
+    const char *takes;                                 /* its operands: p a list place, t a text, f a flag, s a size, c a channel */
     void (*answer)(const struct operands *);
 };
 
@@ -68,16 +74,20 @@ static void put_bits(uint64_t bits)
     printf(" %016" PRIx64, bits);
 }
 
+static void put_bytes(const uint8_t *at, size_t length)
+{
+    put_word(length == 0 ? "-" : "");
+    for (size_t i = 0; i < length; i++)
+        printf("%02x", at[i]);
+}
+
 /* The bytes of a part of a text; `!` where the text has no such part. */
 static void put_part_bytes(struct bytes text, struct homeludaf_part part)
 {
-    if (text.length < part.start || text.length - part.start < part.length) {
+    if (text.length < part.start || text.length - part.start < part.length)
         put_word("!");
-        return;
-    }
-    put_word(part.length == 0 ? "-" : "");
-    for (size_t i = 0; i < part.length; i++)
-        printf("%02x", text.at[part.start + i]);
+    else
+        put_bytes(text.at + part.start, part.length);
 }
 
 static void put_part(struct homeludaf_part part)
@@ -244,6 +254,32 @@ static void answer_filter(const struct operands *o)
         put_filter_value(&a);
 }
 
+/* What is lent to a writer, with marks that show what it has not written. */
+static uint8_t lent[LENT];
+
+static void put_set_back(const struct homeludaf_answer *a, uint64_t size)
+{
+    printf("%" PRIu64, a->code);
+    put_number(a->result.written);
+    put_bytes(lent, size);
+}
+
+static void answer_hex(const struct operands *o)
+{
+    struct homeludaf_answer a = unfilled();
+    memset(lent, 0xee, sizeof lent);
+    homeludaf_hex((uint8_t)o->channels[0], (uint8_t)o->channels[1], (uint8_t)o->channels[2], (uint8_t)o->channels[3], o->flag != 0, lent, o->size, &a);
+    put_set_back(&a, o->size);
+}
+
+static void answer_keyword(const struct operands *o)
+{
+    struct homeludaf_answer a = unfilled();
+    memset(lent, 0xee, sizeof lent);
+    homeludaf_keyword((uint8_t)o->channels[0], (uint8_t)o->channels[1], (uint8_t)o->channels[2], (uint8_t)o->channels[3], lent, o->size, &a);
+    put_set_back(&a, o->size);
+}
+
 static const struct call base_calls[] = {
     { "color", "t", answer_color },
     { "length", "t", answer_length },
@@ -254,6 +290,11 @@ static const struct call base_calls[] = {
     { "paint", "t", answer_paint },
     { "inherit", "tt", answer_inherited },
     { "filter", "pt", answer_filter },
+};
+
+static const struct call later_calls[] = {
+    { "hex", "fscccc", answer_hex },
+    { "keyword", "scccc", answer_keyword },
 };
 
 /* Takes the bytes up to the next space, or all, off the front of what is left of a line. */
@@ -321,34 +362,62 @@ static bool decimal(struct bytes field, uint64_t *n)
     return field.length != 0;
 }
 
+/* Likewise, of a number that is at most `most`. */
+static bool at_most(struct bytes field, uint64_t most, uint64_t *n)
+{
+    return decimal(field, n) && *n <= most;
+}
+
+/* Where the operands of a kind that comes several times go. */
+struct next {
+    struct bytes *text;
+    uint64_t *channel;
+};
+
+static bool take_operand(char kind, struct bytes field, struct operands *o, struct next *next)
+{
+    switch (kind) {
+    case 'p':
+        return decimal(field, &o->place);
+    case 'f':
+        return at_most(field, 1, &o->flag);
+    case 's':
+        return at_most(field, LENT, &o->size);
+    case 'c':
+        return at_most(field, 255, next->channel++);
+    default:
+        if (!decode(&field))
+            return false;
+        *next->text++ = field;
+        return true;
+    }
+}
+
 /* Takes a call's operands off what is left of its line; whether they are there, and nothing else. */
 static bool take_operands(const char *takes, struct bytes left, struct operands *o)
 {
-    struct bytes *text = o->texts;
-    for (; *takes; takes++) {
-        if (!take_space(&left))
+    struct next next = { o->texts, o->channels };
+    for (; *takes; takes++)
+        if (!take_space(&left) || !take_operand(*takes, take_field(&left), o, &next))
             return false;
-        struct bytes field = take_field(&left);
-        if (*takes == 'p' ? !decimal(field, &o->place) : !decode(&field))
-            return false;
-        if (*takes == 't')
-            *text++ = field;
-    }
     return left.length == 0;
 }
 
-static const struct call *call_named(struct bytes name)
+static const struct call *call_named(const struct call *calls, size_t count, struct bytes name)
 {
-    for (size_t i = 0; i < sizeof base_calls / sizeof base_calls[0]; i++)
-        if (strlen(base_calls[i].name) == name.length && memcmp(base_calls[i].name, name.at, name.length) == 0)
-            return &base_calls[i];
+    for (size_t i = 0; i < count; i++)
+        if (strlen(calls[i].name) == name.length && memcmp(calls[i].name, name.at, name.length) == 0)
+            return &calls[i];
     return NULL;
 }
 
-static void answer(struct bytes line)
+static void answer(struct bytes line, bool later)
 {
     struct operands o;
-    const struct call *call = call_named(take_field(&line));
+    struct bytes name = take_field(&line);
+    const struct call *call = call_named(base_calls, sizeof base_calls / sizeof base_calls[0], name);
+    if (!call && later)
+        call = call_named(later_calls, sizeof later_calls / sizeof later_calls[0], name);
     if (call && take_operands(call->takes, line, &o))
         call->answer(&o);
     else
@@ -387,8 +456,8 @@ static bool read_line(struct room *room, struct bytes *line)
 
 int main(int argc, char **argv)
 {
-    if (argc != 2 || strcmp(argv[1], "base") != 0) {
-        fputs("usage: lines base <CASES >ANSWERS\n", stderr);
+    if (argc > 2 || (argc == 2 && strcmp(argv[1], "base") != 0)) {
+        fputs("usage: lines [base] <CASES >ANSWERS\n", stderr);
         return 2;
     }
     struct room room = { NULL, 0 };
@@ -397,7 +466,7 @@ int main(int argc, char **argv)
     /* A program that waits for each answer gets it. */
     setvbuf(stdout, NULL, _IOLBF, BUFSIZ);
     while (read_line(&room, &line))
-        answer(line);
+        answer(line, argc == 1);
     free(room.at);
     return ferror(stdin) || ferror(stdout) ? 1 : 0;
 }

@@ -1,4 +1,5 @@
 -- Wrong answers that the definitions shut out, an example of each.
+use mathlib.Core.Bool.{true, false}
 use mathlib.Core.Path.{_≡_}
 use Rattle.bytes.specs.Moves.{place}
 use Rattle.bytes.specs.Words.{ascii}
@@ -16,6 +17,9 @@ use Rattle.paint.specs.declared.PaintFallback.the-variants as B
 use Rattle.paint.specs.declared.Whose.the-variants as O
 use Rattle.filter_functions.specs.Filters.{nextFilter}
 use Rattle.filter_functions.specs.declared.FilterStep.the-variants as F
+use Rattle.set_back.specs.Answers.{hexAnswer, keywordAnswer}
+use Rattle.set_back.specs.Texts.{hexText}
+use Rattle.set_back.specs.declared.SetBack.the-variants as H
 use Rattle.examples.specs.Examples.{refusal}
 
 pub record Shut : Type 0 where
@@ -43,3 +47,11 @@ pub record Shut : Type 0 where
   pub painted : paints.fromStr (ascii "rgb(1e23,0,0)") ≡ P.Refused (refusal 10 5 0 0)
   -- nor by a shadow, in its colour
   pub shaded : nextFilter (ascii "drop-shadow(rgb(1e23,0,0) 1 2)") 0 ≡ F.Refused (refusal 10 17 0 0) (place 30)
+  -- a colour that is not opaque has no keyword: 0,0,0,0 is not `black`
+  pub unnamed : keywordAnswer (rgba 0 0 0 0) 24 ≡ H.Refused (refusal 17 0 0 0)
+  -- where no keyword has the colour, none could be too long for what is lent
+  pub unlent : keywordAnswer (rgba 1 2 3 255) 0 ≡ H.Refused (refusal 17 0 0 0)
+  -- the long form is not shortened to fit
+  pub unshortened : hexAnswer (rgba 17 34 51 255) false 4 ≡ H.Refused (refusal 16 0 0 0)
+  -- the short form leaves an alpha of 255 out as well
+  pub opaque : hexText (rgba 17 34 51 255) true ≡ ascii "#123"

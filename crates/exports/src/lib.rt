@@ -1,15 +1,23 @@
 // The C boundary: every outside call. A text is lent as (pointer, length); the answer is written into a record of 24 numbers.
 ghost use mathlib.Core.Path.{_≡_};
+ghost use lib.ListN.{length};
 ghost use Rattle.exports.specs.Many.{fitting, filled, toldOf, filterAt, lengthAt};
 ghost use Rattle.records.specs.Records.{colorRecord, lengthRecord, lengthStepRecord, angleRecord, linkRecord, paintRecord, inheritedRecord, filterRecord, recordFor};
+ghost use Rattle.counts.specs.Counts.{setBackRecord};
 ghost use Rattle.packed.specs.Numbers.{colorAnswerNumber, paintAnswerNumber};
 ghost use Rattle.angle.specs.Angles as angles;
 ghost use Rattle.color.specs.Answer as colors;
+ghost use Rattle.color.specs.Color.{rgba};
 ghost use Rattle.filter_functions.specs.Filters.{nextFilter};
 ghost use Rattle.funciri.specs.Answers.{iriFromStr, funcIriFromStr};
 ghost use Rattle.length.specs.Lengths as lengths;
+ghost use Rattle.lent.specs.Texts.{written};
+ghost use Rattle.names.specs.Back.{nameOver};
 ghost use Rattle.paint.specs.Answers as paints;
+ghost use Rattle.set_back.specs.Answers.{hexAnswer, keywordOf, keywordAnswer};
+ghost use Rattle.set_back.specs.Texts.{hexText};
 use bytes::Place;
+use color::Color;
 
 mod many;
 
@@ -127,4 +135,49 @@ pub extern "C" fn homeludaf_length_all(
     ensures { λ _. ⌜ now (told .exit) ≡ toldOf place (fitting (lengthAt (now (text .entry))) (now (answers .entry)) place) ⌝ }
 {
     many::length_steps(text, Place(place), answers, told);
+}
+
+// A colour as hex digits, written into lent bytes.
+#[no_mangle]
+pub extern "C" fn homeludaf_hex(
+    red: u8,
+    green: u8,
+    blue: u8,
+    alpha: u8,
+    short: bool,
+    out: &mut [u8],
+    answer: &mut [u64; 24],
+)
+    ensures { λ _. ⌜ now (answer .exit) ≡ setBackRecord (hexAnswer (rgba red green blue alpha) short (length (now (out .entry)))) ⌝ }
+    ensures { λ _. ⌜ now (out .exit) ≡ written (hexText (rgba red green blue alpha) short) (now (out .entry)) ⌝ }
+{
+    let color = Color {
+        red,
+        green,
+        blue,
+        alpha,
+    };
+    counts::write_set_back(answer, set_back::hex(color, short, out));
+}
+
+// A colour as its keyword, likewise.
+#[no_mangle]
+pub extern "C" fn homeludaf_keyword(
+    red: u8,
+    green: u8,
+    blue: u8,
+    alpha: u8,
+    out: &mut [u8],
+    answer: &mut [u64; 24],
+)
+    ensures { λ _. ⌜ now (answer .exit) ≡ setBackRecord (keywordAnswer (rgba red green blue alpha) (length (now (out .entry)))) ⌝ }
+    ensures { λ _. ⌜ now (out .exit) ≡ nameOver (keywordOf (rgba red green blue alpha)) (now (out .entry)) ⌝ }
+{
+    let color = Color {
+        red,
+        green,
+        blue,
+        alpha,
+    };
+    counts::write_set_back(answer, set_back::keyword(color, out));
 }
