@@ -6,7 +6,8 @@
 use std::mem::MaybeUninit;
 
 use crate::packed::Packed;
-use crate::record::{Record, ENTRIES};
+use crate::record::{Record, ENTRIES, RESULT};
+use crate::Color;
 
 extern "C" {
     fn homeludaf_color_packed(text: *const u8, length: usize, answer: *mut u64) -> u64;
@@ -30,6 +31,25 @@ extern "C" {
         answers: *mut u64,
         entries: usize,
         told: *mut u64,
+    );
+    fn homeludaf_hex(
+        red: u8,
+        green: u8,
+        blue: u8,
+        alpha: u8,
+        short: bool,
+        out: *mut u8,
+        length: usize,
+        answer: *mut u64,
+    );
+    fn homeludaf_keyword(
+        red: u8,
+        green: u8,
+        blue: u8,
+        alpha: u8,
+        out: *mut u8,
+        length: usize,
+        answer: *mut u64,
     );
 }
 
@@ -178,5 +198,50 @@ impl Ahead {
 
     pub(crate) fn filters(&mut self, text: &str, place: usize) {
         self.fill(homeludaf_filter_all, text, place);
+    }
+}
+
+/// The bytes of the longest text of a colour, which is `lightgoldenrodyellow`.
+const LONGEST: usize = 20;
+
+/// A colour as the archive wrote it. The bytes behind the text are 0.
+#[derive(Clone, Copy, PartialEq, Eq, Hash)]
+pub(crate) struct Text {
+    bytes: [u8; LONGEST],
+    length: u8,
+}
+
+impl Text {
+    /// What a call writes into the bytes, and answers in the record, that it is handed.
+    #[inline(always)]
+    fn of(call: impl FnOnce(*mut u8, *mut u64)) -> Option<Self> {
+        let mut bytes = [0; LONGEST];
+        let mut answer = Record([0; ENTRIES]);
+        call(bytes.as_mut_ptr(), answer.0.as_mut_ptr());
+        let length = answer.0[RESULT].min(LONGEST as u64) as u8;
+        (!answer.is_refused()).then_some(Text { bytes, length })
+    }
+
+    pub(crate) fn hex(c: Color, short: bool) -> Option<Self> {
+        // SAFETY: the bytes and the record are ours, do not overlap and live through the call, which
+        // keeps no pointer. The callee is safe and ends for every colour (proved: its contract has no
+        // `requires`), and writes inside the `LONGEST` bytes that it is lent alone (proved).
+        Self::of(|out, answer| unsafe {
+            homeludaf_hex(c.red, c.green, c.blue, c.alpha, short, out, LONGEST, answer)
+        })
+    }
+
+    pub(crate) fn keyword(c: Color) -> Option<Self> {
+        // SAFETY: as in `hex`.
+        Self::of(|out, answer| unsafe {
+            homeludaf_keyword(c.red, c.green, c.blue, c.alpha, out, LONGEST, answer)
+        })
+    }
+
+    #[inline]
+    pub(crate) fn as_str(&self) -> &str {
+        let text = &self.bytes[..usize::from(self.length)];
+        // SAFETY: the text is hex digits after `#`, or a keyword (proved): ASCII, which is UTF-8.
+        unsafe { std::str::from_utf8_unchecked(text) }
     }
 }

@@ -1,6 +1,9 @@
 //! Colours.
 
-use crate::boundary::{self, Room};
+use std::fmt;
+use std::ops::Deref;
+
+use crate::boundary::{self, Room, Text};
 use crate::Error;
 
 /// Representation of the [`<color>`] type.
@@ -67,6 +70,99 @@ impl Color {
     #[inline]
     pub fn blue() -> Self {
         Self::new_rgb(0, 0, 255)
+    }
+
+    /// The colour as `#` and lower-case hex digits: six if alpha is 255, else eight. It reads back
+    /// as the same colour.
+    ///
+    /// ```
+    /// use homeludaf::Color;
+    ///
+    /// assert_eq!(Color::new_rgb(17, 34, 51).hex(), "#112233");
+    /// assert_eq!(Color::new_rgba(17, 34, 51, 128).hex().to_string(), "#11223380");
+    /// ```
+    pub fn hex(self) -> ColorText {
+        ColorText(Text::hex(self, false).expect("there is room for nine bytes"))
+    }
+
+    /// The same in three or four digits, where every channel, alpha too, is a doubled digit; else as
+    /// by [`Color::hex`].
+    ///
+    /// ```
+    /// use homeludaf::Color;
+    ///
+    /// assert_eq!(Color::new_rgb(17, 34, 51).hex_short(), "#123");
+    /// assert_eq!(Color::new_rgba(17, 34, 51, 68).hex_short(), "#1234");
+    /// assert_eq!(Color::new_rgba(17, 34, 51, 128).hex_short(), "#11223380");
+    /// ```
+    pub fn hex_short(self) -> ColorText {
+        ColorText(Text::hex(self, true).expect("there is room for nine bytes"))
+    }
+
+    /// The first keyword in alphabetical order that has the channels, for alpha 255 alone; `None`
+    /// where there is none.
+    ///
+    /// ```
+    /// use homeludaf::Color;
+    ///
+    /// assert_eq!(Color::new_rgb(0, 255, 255).keyword().unwrap(), "aqua");
+    /// assert!(Color::new_rgb(1, 2, 3).keyword().is_none());
+    /// assert!(Color::new_rgba(0, 0, 0, 0).keyword().is_none());
+    /// ```
+    pub fn keyword(self) -> Option<ColorText> {
+        Text::keyword(self).map(ColorText)
+    }
+}
+
+/// A colour as text, held in the value itself: [`Color::hex`] and the like give it.
+#[derive(Clone, Copy, PartialEq, Eq, Hash)]
+pub struct ColorText(Text);
+
+impl ColorText {
+    /// The text.
+    #[inline]
+    pub fn as_str(&self) -> &str {
+        self.0.as_str()
+    }
+}
+
+impl Deref for ColorText {
+    type Target = str;
+
+    #[inline]
+    fn deref(&self) -> &str {
+        self.as_str()
+    }
+}
+
+impl AsRef<str> for ColorText {
+    #[inline]
+    fn as_ref(&self) -> &str {
+        self.as_str()
+    }
+}
+
+impl fmt::Display for ColorText {
+    fn fmt(&self, f: &mut fmt::Formatter<'_>) -> fmt::Result {
+        f.pad(self)
+    }
+}
+
+impl fmt::Debug for ColorText {
+    fn fmt(&self, f: &mut fmt::Formatter<'_>) -> fmt::Result {
+        fmt::Debug::fmt(self.as_str(), f)
+    }
+}
+
+impl PartialEq<str> for ColorText {
+    fn eq(&self, other: &str) -> bool {
+        self.as_str() == other
+    }
+}
+
+impl PartialEq<&str> for ColorText {
+    fn eq(&self, other: &&str) -> bool {
+        self.as_str() == *other
     }
 }
 

@@ -12,7 +12,8 @@
 //! ```
 //!
 //! What svgtypes lacks: every refusal's number, position and place, by [`Error::refusal`] and
-//! [`FilterValueListParserError::refusal`].
+//! [`FilterValueListParserError::refusal`]; and a colour as text, by [`Color::hex`],
+//! [`Color::hex_short`] and [`Color::keyword`].
 //!
 //! Two refusals have no like in svgtypes: a text over 4,096 bytes (number 1), and a number outside
 //! the domain (number 10). Both come as [`Error::InvalidString`], so that [`Error`] has svgtypes'
@@ -36,7 +37,7 @@ mod paint;
 mod record;
 
 pub use crate::angle::{Angle, AngleUnit};
-pub use crate::color::Color;
+pub use crate::color::{Color, ColorText};
 pub use crate::error::{Error, Refusal};
 pub use crate::filter_functions::{FilterValue, FilterValueListParser, FilterValueListParserError};
 pub use crate::funciri::{FuncIRI, IRI};

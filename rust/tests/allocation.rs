@@ -1,4 +1,4 @@
-//! What is accepted is read without allocation.
+//! What is accepted is read without allocation, and a colour is written without one.
 
 use std::alloc::{GlobalAlloc, Layout, System};
 use std::cell::Cell;
@@ -49,6 +49,7 @@ fn none_on_the_accepting_path() {
         ] {
             black_box(Color::from_str(text).unwrap());
         }
+        black_box((Color::red().hex(), Color::red().keyword()));
         black_box(Length::from_str("1.5em").unwrap());
         black_box(Angle::from_str("1rad").unwrap());
         black_box(IRI::from_str("#a").unwrap());
