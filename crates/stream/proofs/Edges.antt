@@ -8,7 +8,7 @@ use borrow.Author.Tests.{leb-true, lt-leb, le-leb, ne-eqb}
 use lib.Dec.{leb, eqb}
 use lib.ListN.{length, getD, List·getD-eq-default}
 use Rattle.bytes.specs.Bytes.{isTail}
-use Rattle.utf8.specs.Characters.{utf8Of, onCharacter, firsts, characters, calcCharPosAt}
+use Rattle.utf8.specs.Characters.{utf8Of, onCharacter, firsts, heads, characters, calcCharPosAt}
 use Rattle.stream.specs.Moves.{moveFault, moveRefusal}
 use Rattle.stream.specs.Refusals.{numberOf, bareRefusal, illFormed, refusalOf, admitUtf8, admitText, admitPlace, thenAdmitted}
 use Rattle.bytes.specs.declared.Place.{Place}
@@ -20,7 +20,7 @@ use Rattle.stream.specs.declared.Admission.{Admission}
 use Rattle.stream.specs.declared.Admission.the-variants as A
 use Rattle.bytes.proofs.Ranges.{either}
 use Rattle.bytes.proofs.Shifts.{sub-shift}
-use Rattle.utf8.proofs.Counting.{heads, firsts-are, heads-length, on-byte, position-shift}
+use Rattle.utf8.proofs.Counting.{firsts-are, heads-length, on-byte, position-shift}
 
 module _ (s : List ℕ) where
   pub admit-long : {e : Refusal} → 4096 < length s → e ≡ bareRefusal 1 → A.Refused e ≡ admitText s

@@ -9,18 +9,13 @@ use borrow.Author.Tests.{eq-eqb, ne-eqb}
 use lib.Dec.{eqb, eqb·suc-zero}
 use lib.ListN.{length, getD, take, drop, length-append}
 use lib.Seq.{take-suc, take-all, take-append-add, take-append-le, getD-append-add}
-use Rattle.bytes.specs.Bytes.{isTail}
-use Rattle.utf8.specs.Characters.{charLen, walk, utf8Of, firsts, count, characters, calcCharPosAt, onCharacter, skipChars}
+use Rattle.bytes.specs.Bytes.{within, isTail}
+use Rattle.utf8.specs.Characters.{keeps, rowOf, lenAt, charLen, walk, utf8Of, firsts, count, characters, calcCharPosAt, heads, manualAt, onCharacter, skipChars}
 use Rattle.utf8.specs.declared.Utf8.{Utf8}
 use Rattle.utf8.specs.declared.Utf8.the-variants.{WellFormed, IllFormed}
 use Rattle.bytes.proofs.Shifts.{eqb-shift}
 use Rattle.utf8.proofs.Octets.{tails, char-le, char-inside, char-more, char-tails, char-first}
 use Rattle.bytes.proofs.Ranges.{and-first, and-second}
-
--- for each byte, whether it continues no character
-unfoldable pub heads : List ℕ → List Bool
-heads [] = []
-heads (x ∷ xs) = not (isTail x) ∷ heads xs
 
 firsts-heads : (l : List ℕ) (i k : ℕ) → tails k l ≡ true → walk i k l ≡ WellFormed → firsts k l ≡ heads l
 unfolding firsts heads walk tails
@@ -42,6 +37,16 @@ firsts-heads (x ∷ xs) i zero t e = go (charLen (x ∷ xs)) refl e (firsts-head
 pub firsts-are : (s : List ℕ) → utf8Of s ≡ WellFormed → firsts 0 s ≡ heads s
 unfolding utf8Of tails
 firsts-are s e = firsts-heads s 0 0 refl e
+
+-- the manual's way gives document 01's position on every UTF-8 text
+pub manual-counts : (s : List ℕ) (i : ℕ) → utf8Of s ≡ WellFormed → manualAt s i ≡ calcCharPosAt s i
+unfolding manualAt calcCharPosAt
+manual-counts s i u = rw (firsts-are s u)
+
+-- The smallest text on which the two would differ is the byte 0x80 alone, which continues a character that none has begun: it is no UTF-8
+pub manual-apart : (manualAt (0x80 ∷ []) 1 ≡ 1) × ((calcCharPosAt (0x80 ∷ []) 1 ≡ 2) × (utf8Of (0x80 ∷ []) ≡ IllFormed (record { 0 = 0 })))
+unfolding manualAt heads calcCharPosAt firsts count utf8Of walk charLen lenAt rowOf keeps within
+manual-apart = (refl, (refl, refl))
 
 pub count-append : (a b : List Bool) → count (a ++ b) ≡ count a + count b
 unfolding count
@@ -65,21 +70,22 @@ heads-at (x ∷ xs) (suc i) h = heads-at xs i (omega arith)
 
 -- the invariant of the loop that counts
 pub record Counting (s : List ℕ) (end i n : ℕ) : Type 0 where
-  pub same : n ≡ 1 + count (take i (heads s))
+  pub same : n ≡ manualAt s i
   pub small : n ≤ i + 1
   pub inside : i ≤ end
 
 pub count-start : (s : List ℕ) (end : ℕ) → Counting s end 0 1
-unfolding count
+unfolding count manualAt
 count-start s end = record { same = refl; small = omega arith; inside = omega arith }
 
 module _ {s : List ℕ} {end i n : ℕ} {r : Bool} (v : Counting s end i n) (q : r ≡ isTail (getD s i 0)) (h : i < length s) (k : i < end) where
-  one-more : (t : Bool) → not r ≡ t → count (take (i + 1) (heads s)) ≡ count (take i (heads s)) + cond t 1 0
-  unfolding count
+  one-more : (t : Bool) → not r ≡ t → manualAt s (i + 1) ≡ manualAt s i + cond t 1 0
+  unfolding count manualAt
   one-more t e =
       let l : i < length (heads s) = omega (arith, heads-length s) in
       let g : getD (heads s) i false ≡ t = heads-at s i h ∙ ap not (sym q) ∙ e in
-      simp (add-one, take-suc (heads s) i false l, count-append, g)
+      let e : count (take (i + 1) (heads s)) ≡ count (take i (heads s)) + cond t 1 0 = simp (add-one, take-suc (heads s) i false l, count-append, g) in
+      omega arith
 
   pub count-tail : r ≡ true → Counting s end (i + 1) n
   count-tail e = record { same = omega (arith, one-more false (ap not e)); small = omega arith; inside = omega arith }
@@ -90,20 +96,15 @@ module _ {s : List ℕ} {end i n : ℕ} {r : Bool} (v : Counting s end i n) (q :
 module _ {s : List ℕ} {end i n : ℕ} (v : Counting s end i n) (u : utf8Of s ≡ WellFormed) where
   -- at the place
   pub count-there : end ≤ i → n ≡ calcCharPosAt s end
-  unfolding calcCharPosAt
-  count-there h =
-      let e : i ≡ end = omega arith in
-      let f : firsts 0 s ≡ heads s = firsts-are s u in
-      cc
+  count-there h = let e : i ≡ end = omega arith in cc (manual-counts s end u)
 
   -- at the text's end, with the place at it or past it
   pub count-end : length s ≤ i → n ≡ calcCharPosAt s end
-  unfolding calcCharPosAt
+  unfolding manualAt
   count-end h =
       let a : take i (heads s) ≡ heads s = take-all i (heads s) (omega (arith, heads-length s)) in
       let b : take end (heads s) ≡ heads s = take-all end (heads s) (omega (arith, heads-length s)) in
-      let f : firsts 0 s ≡ heads s = firsts-are s u in
-      cc
+      v .same ∙ rw (a, ← b) (manual-counts s end u)
 
 pub ruleset counted = (count-start, count-tail, count-head, count-there, count-end)
 

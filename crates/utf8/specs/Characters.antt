@@ -5,6 +5,7 @@ use mathlib.Core.List.{List, [], _∷_}
 use lib.Dec.{eqb, leb, ltb}
 use lib.ListN.{length, getD, take, drop}
 use Rattle.bytes.specs.Bytes.{within}
+use Rattle.bytes.specs.Bytes.{isTail}
 use Rattle.utf8.specs.declared.Utf8.{Utf8}
 use Rattle.utf8.specs.declared.Utf8.the-variants.{WellFormed, IllFormed}
 
@@ -97,6 +98,15 @@ characters s = count (firsts 0 s)
 -- "a position counts characters from 1: 1 plus the characters whose first byte lies before the place"
 unfoldable pub calcCharPosAt : List ℕ → ℕ → ℕ
 calcCharPosAt s i = 1 + count (take i (firsts 0 s))
+
+-- for each byte, whether it continues no character
+unfoldable pub heads : List ℕ → List Bool
+heads [] = []
+heads (x ∷ xs) = not (isTail x) ∷ heads xs
+
+-- the manual: "count every byte that does not continue a character". From 1, as a position counts
+unfoldable pub manualAt : List ℕ → ℕ → ℕ
+manualAt s i = 1 + count (take i (heads s))
 
 -- a place where a character starts, or the end of the text
 unfoldable pub onCharacter : List ℕ → ℕ → Bool

@@ -139,7 +139,7 @@ pub fn utf8_test(text: &[u8]) -> Utf8
     Utf8::WellFormed
 }
 
-// The position of a place in a UTF-8 text: 1 and the bytes before it that continue no character.
+// The position of a place in a UTF-8 text, as the manual counts: from 1, "count every byte that does not continue a character" before it.
 pub fn calc_char_pos_at(text: &[u8], place: Place) -> Position
     requires { ⌜ utf8Of (now text) ≡ Utf8.WellFormed ⌝ }
     ensures { λ r. ⌜ r .0 ≡ calcCharPosAt (now (text .entry)) (place .0) ⌝ }
