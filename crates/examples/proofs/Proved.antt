@@ -16,7 +16,7 @@ use Rattle.numbers.specs.Number.{parseNumber, parseNumberOrPercent, parseListNu
 use Rattle.names.specs.Keywords.{keywords}
 use Rattle.names.specs.Look.{namedOf, lookUp}
 use Rattle.length.specs.Lengths as lengths
-use Rattle.length.specs.Lengths.{parseLength, unitAt, unitRest, unitWidth, parseWhole}
+use Rattle.length.specs.Lengths.{parseLength, unitAt, unitRest, unitWidth, parseWhole, parseListLength, nextLength}
 use Rattle.angle.specs.Angles.{parseUnit}
 use Rattle.color.specs.Answer as colors
 use Rattle.color.specs.Hex.{fromHex, shortHex, hexPair, shortColor, longColor, parseHex}
@@ -58,5 +58,36 @@ examples =
     }
 
 pub shut : Shut
-unfolding colors.fromStr hasQuote isLink closeLink closeQuote quotedLink plainLink parseIri parseFuncIri iriFromStr paints.fromStr paints.inheritedOf paints.isInherit trimPart lengths.fromStr nextFilter stepOf admitPlace onCharacter admitText admitUtf8 utf8Of walk charLen lenAt rowOf keeps within refusalOf numberOf isOutsideDomain calcCharPosAt count firsts trimOf trimStart front trimEnd back blankAt blankLen blankBefore blankEnd byteBefore blank1 blank2 blank3 parsePaint parseLinked parseFallback parsePlain movePaint linkStart parseWhole parseLength unitAt unitRest unitWidth parseUnit parseStep afterNone parseNext parseArgument filterName plainName filters.closeBracket isPercent parseFilterLength parseFilterPositiveLength parseFilterAngle parseBlur parseHueRotate tryParseColor parseDeviation parseShadowLengths shadowBefore shadowAfter parseDropShadowFunc parseColorText parseColor parseHex longColor shortColor hexPair shortHex fromHex parseWord part same startsWith lowerOf isRgb isHsl namedColor namedOf lookUp keywords parseRgb parseHsl hslRest rgbRest rgbMarked rgbPlain afterNumber parseAlpha closeBracket consumeByte consumeString hslColor hslToRgb hueToRgb narrowed channelOf parseNumber parseNumberOrPercent parseListNumber parseListNumberOrPercent afterItem parseListSeparator numberFrom finished scaled valueOf scaleOf exponentAt exponentFrom mantissaAt mantissaDot afterSign value scan run bind isCurrByteEq powerOf powerBits mul div add sub rem neg lt le eq ofInt ofBits funcIriFromStr wholeLink sameColour firstNamed nameAnswer settled hexAnswer keywordOf keywordAnswer digit allDoubled shortText longText hexText
-shut = record { alpha = refl; hue = refl; bracket = refl; quoted = refl; stray = refl; trimmed = refl; moved = refl; inherits = refl; current = refl; whose = refl; painted = refl; shaded = refl; unnamed = refl; unlent = refl; unshortened = refl; opaque = refl }
+unfolding colors.fromStr hasQuote isLink closeLink closeQuote quotedLink plainLink parseIri parseFuncIri iriFromStr paints.fromStr paints.inheritedOf paints.isInherit trimPart lengths.fromStr nextFilter stepOf admitPlace onCharacter admitText admitUtf8 utf8Of walk charLen lenAt rowOf keeps within refusalOf numberOf isOutsideDomain calcCharPosAt count firsts trimOf trimStart front trimEnd back blankAt blankLen blankBefore blankEnd byteBefore blank1 blank2 blank3 parsePaint parseLinked parseFallback parsePlain movePaint linkStart parseWhole parseLength unitAt unitRest unitWidth parseUnit parseStep afterNone parseNext parseArgument filterName plainName filters.closeBracket isPercent parseFilterLength parseFilterPositiveLength parseFilterAngle parseBlur parseHueRotate tryParseColor parseDeviation parseShadowLengths shadowBefore shadowAfter parseDropShadowFunc parseColorText parseColor parseHex longColor shortColor hexPair shortHex fromHex parseWord part same startsWith lowerOf isRgb isHsl namedColor namedOf lookUp keywords parseRgb parseHsl hslRest rgbRest rgbMarked rgbPlain afterNumber parseAlpha closeBracket consumeByte consumeString hslColor hslToRgb hueToRgb narrowed channelOf parseNumber parseNumberOrPercent parseListNumber parseListNumberOrPercent afterItem parseListSeparator numberFrom finished scaled valueOf scaleOf exponentAt exponentFrom mantissaAt mantissaDot afterSign value scan run bind isCurrByteEq powerOf powerBits mul div add sub rem neg lt le eq ofInt ofBits funcIriFromStr wholeLink sameColour firstNamed nameAnswer settled hexAnswer keywordOf keywordAnswer digit allDoubled shortText longText hexText nextLength parseListLength
+shut =
+    record {
+      alpha = refl;
+      hue = refl;
+      bracket = refl;
+      quoted = refl;
+      stray = refl;
+      trimmed = refl;
+      moved = refl;
+      inherits = refl;
+      current = refl;
+      whose = refl;
+      painted = refl;
+      painted-large = refl;
+      painted-form = refl;
+      painted-ended = refl;
+      fallback-ended = refl;
+      shaded = refl;
+      unnamed = refl;
+      unlent = refl;
+      unshortened = refl;
+      opaque = refl;
+      ended = refl;
+      ended-at-once = refl;
+      ended-in-list = refl;
+      one-space = refl;
+      too-large = refl;
+      far-scale = refl;
+      far-nought = refl;
+      form-first = refl;
+      large-first = refl;
+    }

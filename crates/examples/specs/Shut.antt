@@ -3,6 +3,10 @@ use mathlib.Core.Bool.{true, false}
 use mathlib.Core.Path.{_≡_}
 use Rattle.bytes.specs.Moves.{place}
 use Rattle.bytes.specs.Words.{ascii}
+use Rattle.length.specs.Lengths as lengths
+use Rattle.length.specs.Lengths.{nextLength}
+use Rattle.length.specs.declared.LengthAnswer.the-variants as L
+use Rattle.length.specs.declared.LengthStep.the-variants as S
 use Rattle.color.specs.Answer as colors
 use Rattle.color.specs.Color.{rgba}
 use Rattle.color.specs.declared.ColorAnswer.the-variants as C
@@ -44,9 +48,16 @@ pub record Shut : Type 0 where
   -- a refusal of the parent's text is told as the parent's
   pub whose : paints.inheritedOf (ascii "inherit") (ascii "x") ≡ I.Refused O.Parent (refusal 5 0 0 0)
   -- a number outside the domain is not swallowed by a paint
-  pub painted : paints.fromStr (ascii "rgb(1e23,0,0)") ≡ P.Refused (refusal 10 5 0 0)
+  pub painted : paints.fromStr (ascii "rgb(1e23,0,0)") ≡ P.Refused (refusal 24 5 0 0)
+  -- whichever of the three troubles it has
+  pub painted-large : paints.fromStr (ascii "rgb(9007199254740992,0,0)") ≡ P.Refused (refusal 23 5 0 0)
+  pub painted-form : paints.fromStr (ascii "rgb(1.,0,0)") ≡ P.Refused (refusal 10 5 0 0)
+  -- but a text that has ended is, as a wrong byte is
+  pub painted-ended : paints.fromStr (ascii "rgb(") ≡ P.Refused (refusal 5 0 0 0)
+  -- a fallback's refusal is not swallowed
+  pub fallback-ended : paints.fromStr (ascii "url(#a) rgb(") ≡ P.Refused (refusal 22 5 0 0)
   -- nor by a shadow, in its colour
-  pub shaded : nextFilter (ascii "drop-shadow(rgb(1e23,0,0) 1 2)") 0 ≡ F.Refused (refusal 10 17 0 0) (place 30)
+  pub shaded : nextFilter (ascii "drop-shadow(rgb(1e23,0,0) 1 2)") 0 ≡ F.Refused (refusal 24 17 0 0) (place 30)
   -- a colour that is not opaque has no keyword: 0,0,0,0 is not `black`
   pub unnamed : keywordAnswer (rgba 0 0 0 0) 24 ≡ H.Refused (refusal 17 0 0 0)
   -- where no keyword has the colour, none could be too long for what is lent
@@ -55,3 +66,16 @@ pub record Shut : Type 0 where
   pub unshortened : hexAnswer (rgba 17 34 51 255) false 4 ≡ H.Refused (refusal 16 0 0 0)
   -- the short form leaves an alpha of 255 out as well
   pub opaque : hexText (rgba 17 34 51 255) true ≡ ascii "#123"
+  -- where the text has ended after spaces no number starts by 22, and not by 9; at the end itself a list number is 4
+  pub ended : colors.fromStr (ascii "rgb(1, ") ≡ C.Refused (refusal 22 8 0 0)
+  pub ended-at-once : colors.fromStr (ascii "rgb(") ≡ C.Refused (refusal 22 5 0 0)
+  pub ended-in-list : colors.fromStr (ascii "rgb(1,") ≡ C.Refused (refusal 4 0 0 0)
+  -- a list of one space is 22
+  pub one-space : nextLength (ascii " ") 0 ≡ S.Refused (refusal 22 2 0 0) (place 1)
+  -- M is too large by 23, the scale out of range by 24
+  pub too-large : lengths.fromStr (ascii "9007199254740992") ≡ L.Refused (refusal 23 1 0 0)
+  pub far-scale : lengths.fromStr (ascii "1e23") ≡ L.Refused (refusal 24 1 0 0)
+  pub far-nought : lengths.fromStr (ascii "0e23") ≡ L.Refused (refusal 24 1 0 0)
+  -- the form is judged before M, and M before the scale
+  pub form-first : lengths.fromStr (ascii "9007199254740992.") ≡ L.Refused (refusal 10 1 0 0)
+  pub large-first : lengths.fromStr (ascii "9007199254740992e23") ≡ L.Refused (refusal 23 1 0 0)

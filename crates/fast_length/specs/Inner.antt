@@ -1,16 +1,15 @@
--- A length of a told number, and refusals that are made without a fault. Only contracts inside the crate speak of them.
+-- A length of a told number, and refusals. Only contracts inside the crate speak of them.
 use Prim.Native.Nat.{ℕ, _+_}
 use mathlib.Core.Bool.{cond}
 use mathlib.Core.List.{List}
 use lib.Dec.{eqb}
-use lib.ListN.{getD}
-use Rattle.bytes.specs.Bytes.{isSpace}
 use Rattle.utf8.specs.Characters.{calcCharPosAt}
 use Rattle.bytes.specs.Moves.{place}
-use Rattle.stream.specs.Refusals.{bareRefusal}
-use Rattle.bytes.specs.Scan.{scan}
+use Rattle.stream.specs.Refusals.{bareRefusal, refusalOf}
 use Rattle.stream.specs.declared.Refusal.{Refusal}
-use Rattle.numbers.specs.Number.{startsNumber}
+use Rattle.numbers.specs.Number.{parseNumber}
+use Rattle.numbers.specs.declared.NumberRead.{NumberRead}
+use Rattle.numbers.specs.declared.NumberRead.the-variants as N
 use Rattle.length.specs.Lengths.{unitAt, unitWidth}
 use Rattle.fast_numbers.specs.declared.ToldNumber.{ToldNumber}
 use Rattle.fast_length.specs.Told.{noLength}
@@ -34,6 +33,10 @@ refusalAt s n i =
       part = bareRefusal n .part;
     }
 
--- the refusal where no number is read: 10 where one starts, 9 where none does, "position after spaces"
+-- the refusal where no number is read; that of one that is read is never asked for
+unfoldable pub numberRefusal : List ℕ → NumberRead → Refusal
+numberRefusal s (N.Value n p) = bareRefusal 0
+numberRefusal s (N.Refused e) = refusalOf s e
+
 unfoldable pub noNumberAt : List ℕ → ℕ → Refusal
-noNumberAt s at = let i = scan isSpace s at in refusalAt s (cond (startsNumber (getD s i 0)) 10 9) i
+noNumberAt s at = numberRefusal s (parseNumber s at)

@@ -1,4 +1,4 @@
-// A length and a step of a list of lengths, sooner. No fault is carried: a refusal is made where it is answered.
+// A length and a step of a list of lengths, sooner. No fault is carried where no number starts: the refusal is made where it is answered.
 ghost use mathlib.Core.Path.{_≡_};
 ghost use mathlib.Core.Bool.{cond};
 ghost use Prim.Native.Nat.{_+_, _≤_};
@@ -19,6 +19,7 @@ use length::Length;
 use length::LengthAnswer;
 use length::LengthStep;
 use length::LengthUnit;
+use numbers::NumberRead;
 use stream::Admission;
 use stream::Refusal;
 
@@ -134,14 +135,29 @@ fn refusal_at(text: &[u8], number: u8, at: Place) -> Refusal
 
 // The refusal of a text that has no number at a place.
 fn no_number_at(text: &[u8], at: Place) -> Refusal
-    requires { ⌜ utf8Of (now text) ≡ WellFormed ⌝ }
+    requires { ⌜ (utf8Of (now text) ≡ WellFormed) × (length (now text) ≤ 4096) ⌝ }
     ensures { λ r. ⌜ r ≡ noNumberAt (now (text .entry)) (at .0) ⌝ }
 {
     let start = bytes::skip_spaces(text, at);
-    if numbers::starts_number(bytes::byte_at(text, start)) {
-        return refusal_at(text, 10, start);
+    let i = start.0;
+    if text.len() <= i {
+        return refusal_at(text, 22, start);
+    }
+    if numbers::starts_number(text[i]) {
+        return trouble_at(text, at);
     }
     refusal_at(text, 9, start)
+}
+
+// The same where a number starts: the plain reader says which of its troubles it has.
+fn trouble_at(text: &[u8], at: Place) -> Refusal
+    requires { ⌜ (utf8Of (now text) ≡ WellFormed) × (length (now text) ≤ 4096) ⌝ }
+    ensures { λ r. ⌜ r ≡ noNumberAt (now (text .entry)) (at .0) ⌝ }
+{
+    match numbers::parse_number(text, at) {
+        NumberRead::Refused(fault) => stream::refusal_of(text, fault),
+        NumberRead::Value(_, _) => stream::bare_refusal(0),
+    }
 }
 
 // The record of a step of a list, from a list place of a text whose admission is known.

@@ -17,6 +17,7 @@ use Rattle.stream.specs.declared.Refusal.{Refusal}
 use Rattle.bytes.specs.Words.{ascii, same, startsWith, isCurrByteEq}
 use Rattle.stream.specs.declared.Admission.{Admission}
 use Rattle.stream.specs.declared.Admission.the-variants as M
+use Rattle.stream.proofs.Edges.{outside-is}
 use Rattle.bytes.proofs.Ranges.{either}
 use Rattle.bytes.proofs.Wording.{same-eq}
 use Rattle.color.specs.Answer as color
@@ -94,11 +95,11 @@ shown (C.Value c) = paintNumber (P.Color c)
 shown (C.Refused e) = uncolored (e .number)
 
 fault-shown : (e : Fault) → uncolored (numberOf (e .trouble)) ≡ noPaint + numberOf (cond (isOutsideDomain e) e (invalidValue (e .at .0)) .trouble)
-unfolding uncolored isOutsideDomain numberOf
+unfolding uncolored numberOf
 fault-shown e =
     let n = numberOf (e .trouble) in
     let l : ltb n 4 ≡ false = le-ltb n 4 (omega (arith, fault-within (e .trouble) .low)) in
-    either (eqb n 10) (λ f. simp (l, f)) (λ f. simp (l, f))
+    either (eqb n 10 || (eqb n 23 || eqb n 24)) (λ f. simp (l, outside-is e, f)) (λ f. simp (l, outside-is e, f))
 
 barred-shown : (n : ℕ) → n < 3 → uncolored n ≡ noPaint + n
 unfolding uncolored
@@ -141,11 +142,11 @@ pub refusal-few : (v : ℕ) → v < noColor + 32 → noColor ≤ v → v - noCol
 refusal-few v h l = omega arith
 
 module _ (n : ℕ) where
-  pub kept-number : (ltb n 4 || eqb n 10) ≡ true → noPaint + n ≡ uncolored n
+  pub kept-number : (ltb n 4 || (eqb n 10 || (eqb n 23 || eqb n 24))) ≡ true → noPaint + n ≡ uncolored n
   unfolding uncolored
   kept-number h = simp h
 
-  pub other-number : (ltb n 4 || eqb n 10) ≡ false → noPaint + 5 ≡ uncolored n
+  pub other-number : (ltb n 4 || (eqb n 10 || (eqb n 23 || eqb n 24))) ≡ false → noPaint + 5 ≡ uncolored n
   unfolding uncolored
   other-number h = simp h
 

@@ -42,9 +42,9 @@ readNumber by t = thenPaintRead (λ e b. noPaint + numberOf (e .trouble)) (parse
 unfoldable pub innerNumber : ℕ → List ℕ → ℕ
 innerNumber by t = thenAdmitted (λ e. noPaint + e .number) (admitText t) (readNumber by t)
 
--- a plain colour's refusal, by its number: a paint's is 5, but where the text may not be read, or for 10
+-- a plain colour's refusal, by its number: a paint's is 5, but where the text may not be read, or for a number outside the domain
 unfoldable pub uncolored : ℕ → ℕ
-uncolored n = noPaint + cond (ltb n 4 || eqb n 10) n 5
+uncolored n = noPaint + cond (ltb n 4 || (eqb n 10 || (eqb n 23 || eqb n 24))) n 5
 
 -- a link whose number is n, with the colour answered as its fallback, or the colour's refusal
 unfoldable pub withColor : ℕ → ColorAnswer → ℕ

@@ -159,12 +159,12 @@ fn told_inner(text: &[u8], by: usize) -> u64
     uncolored(v - NO_COLOR)
 }
 
-// A plain colour that is refused is 5, but where its text may not be read, or for 10.
+// A plain colour that is refused is 5, but where its text may not be read, or for a number outside the domain.
 fn uncolored(number: u64) -> u64
     requires { ⌜ number < 32 ⌝ }
     ensures { λ r. ⌜ r ≡ uncolored number ⌝ }
 {
-    if (number < 4) | (number == 10) {
+    if (number < 4) | ((number == 10) | ((number == 23) | (number == 24))) {
         return NO_PAINT + number;
     }
     INVALID

@@ -82,7 +82,7 @@ parseStep s at =
     (cond (startsWith (ascii "none") (drop start s)) (afterNone s (start + 4))
     (thenFilter S.Refused (parseNext s start) (λ v p. bind (scan isSpace s (p .0)) (λ i. S.Value v (place i))))))
 
--- "refused by 4 to 15, or with nothing left, it gives the end of the text"
+-- "refused by 4 to 15, or with nothing left, it gives the end of the text"; 22 to 24 are as 9 and 10 (document 02)
 abbrev pub edged : List ℕ → StepRead → FilterStep
 edged s x = thenStep (λ e. O.Refused (refusalOf s e) (place (length s))) (O.End (place (length s))) (O.NoneWord (place (length s))) x (λ v p. O.Value v p)
 

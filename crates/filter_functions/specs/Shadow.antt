@@ -33,7 +33,7 @@ use Rattle.filter_functions.specs.declared.ShadowColor.the-variants as O
 use Rattle.filter_functions.specs.declared.ShadowLengths.{ShadowLengths}
 use Rattle.filter_functions.specs.declared.ShadowLengths.the-variants as L
 
--- `try_parse_color`, else `currentColor`. "Numbers": "Refusal 10 is never swallowed: not by an optional part". Any other refused colour leaves the place
+-- `try_parse_color`, else `currentColor`. "Numbers": "Refusal 10 is never swallowed: not by an optional part", nor are 23 and 24. Any other refused colour leaves the place
 unfoldable pub tryParseColor : List ℕ → ℕ → ColorTry
 tryParseColor s at =
     thenColor

@@ -117,7 +117,7 @@ unfoldable pub further : Next → ℕ → List ℕ → ℕ → FilterStep
 further next zero s i = next s i
 further next (suc k) s i = further next k s (listPlace (next s i))
 
--- After a refusal of a value (4 to 15) every further step answers the end. A step refused by 1 to 3 has read nothing: its place comes back as it was
+-- After a refusal of a value (4 to 15, 22 to 24) every further step answers the end. A step refused by 1 to 3 has read nothing: its place comes back as it was
 abbrev pub AtItsEnd : Next → Type 0
 AtItsEnd next = (s : List ℕ) (i k : ℕ) (e : Refusal) (p : Place) → next s i ≡ O.Refused e p → 4 ≤ e .number → further next k s (p .0) ≡ O.End p
 

@@ -40,8 +40,8 @@ first-step : nextLength (ascii "5% ,7") 0 ≡ S.Value (record { number = fin fal
 unfolding nextLength parseListLength parseListSeparator isCurrByteEq parseLength unitAt unitRest unitWidth startsWith parseNumber numberFrom finished scaled valueOf scaleOf exponentAt exponentFrom mantissaAt mantissaDot afterSign value scan run within bind powerOf powerBits mul div neg ofInt ofBits admitText admitUtf8 utf8Of walk charLen lenAt rowOf keeps admitPlace onCharacter firsts
 first-step = refl
 
--- a length list of one space is 9, and its list place the end; an empty one ends
-one-space : nextLength (ascii " ") 0 ≡ S.Refused (record { number = 9; position = record { 0 = 2 }; place = place 0; found = 0; wanted = 0; part = record { start = place 0; len = 0 } }) (place 1)
+-- a length list of one space is 22, and its list place the end; an empty one ends
+one-space : nextLength (ascii " ") 0 ≡ S.Refused (record { number = 22; position = record { 0 = 2 }; place = place 0; found = 0; wanted = 0; part = record { start = place 0; len = 0 } }) (place 1)
 unfolding nextLength parseListLength parseLength parseNumber scan run bind admitText admitUtf8 utf8Of walk charLen lenAt rowOf keeps within admitPlace onCharacter firsts refusalOf numberOf calcCharPosAt count
 one-space = refl
 

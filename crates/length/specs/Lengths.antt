@@ -78,7 +78,7 @@ parseWhole s =
 unfoldable pub fromStr : List ℕ → LengthAnswer
 fromStr s = thenAdmitted O.Refused (admitText s) (thenLength (λ e. O.Refused (refusalOf s e)) (parseWhole s) (λ l n p. O.Value l))
 
--- "A list step refused by 1 to 3 gives its list place back as it came; refused by 4 to 15, or with nothing left, it gives the end of the text."
+-- "A list step refused by 1 to 3 gives its list place back as it came; refused by 4 to 15, or with nothing left, it gives the end of the text." 22 to 24 are as 9 and 10 (document 02)
 unfoldable pub nextLength : List ℕ → ℕ → LengthStep
 nextLength s i =
     thenAdmitted (λ e. S.Refused e (place i)) (admitPlace s i)

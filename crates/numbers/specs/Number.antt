@@ -80,7 +80,7 @@ magnitude m down by = cond down (div binary64 (ofInt binary64 (pos m)) (powerOf 
 unfoldable pub valueOf : Bool → ℕ → Bool → ℕ → Float
 valueOf minus m down by = cond minus (neg (magnitude m down by)) (magnitude m down by)
 
--- "Every other number is 10": what is refused goes from the number's first byte to `to`, which is the first byte that the
+-- "Every other number is 10", where document 02 (P8) tells M, 23, and the scale, 24, from the form: what is refused goes from the number's first byte to `to`, which is the first byte that the
 -- form cannot take, or the number's end where M or the scale is out of bounds
 abbrev pub refusedAt : Trouble → ℕ → ℕ → NumberRead
 refusedAt t start to = N.Refused (troubleAt t start start to)
@@ -109,7 +109,7 @@ numberFrom s start =
     let m = mantissaAt s (afterSign s start) in
     finished (eqb (getD s start 0) 45) m (exponentAt s (m .end .0)) start
 
--- "Skip spaces. If the text has ended, or the next byte is not a digit, sign or dot: 9, and the place stays there."
+-- "Skip spaces. If the text has ended, or the next byte is not a digit, sign or dot: 9, and the place stays there." Where the text has ended it is 22 (document 02, P8)
 unfoldable pub parseNumber : List ℕ → ℕ → NumberRead
 parseNumber s at =
     bind (scan isSpace s at) (λ start.

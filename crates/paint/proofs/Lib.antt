@@ -1,4 +1,5 @@
 pub mod Bases
 pub mod Inside
 pub mod Steps
+pub mod Swallowed
 pub mod Worked

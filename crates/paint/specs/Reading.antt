@@ -37,7 +37,7 @@ parseLinked t =
     cond (leb (length t) i) (R.Value (P.FuncIRI link F.Absent))
     (parseFallback (drop i t) link (place i))))
 
--- "A plain colour refused is 5, but for 10, whose position counts from the first byte left by the trimming"
+-- "A plain colour refused is 5, but for 10, whose position counts from the first byte left by the trimming", and for 23 and 24, which are as 10 (document 02)
 unfoldable pub parsePlain : List ℕ → PaintRead
 parsePlain t =
     thenColor (λ e. cond (isOutsideDomain e) (R.Refused e (place 0)) (R.Refused (invalidValue (e .at .0)) (place 0)))

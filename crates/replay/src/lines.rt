@@ -2,6 +2,7 @@
 // A layout has a letter for each entry, which says how the entry is written:
 //   .  not at all                            d  decimal
 //   ,  decimal, after a comma, not a space   b  a float's bits
+//   n  a refusal's number, as document 01 has it
 //   h  the bytes of the part that starts at the entry before and has this length
 //   l  that length, then those bytes
 //   s  a list's state                        u  a length's unit       a  an angle's unit        w  whose text
@@ -17,15 +18,15 @@ use bytes::Part;
 use bytes::Place;
 
 // The layout of each call's row: the refusal, a list's state and place, the result.
-const LAYOUTS: [u8; 115] = *b"ddddd.h..dddd \
-    ddddd.h..bu \
-    ddddd.hsdbu \
-    ddddd.h..bab \
-    ddddd.h..dl \
-    ddddd.h..dl \
-    ddddd.h..kddfdddd \
-    ddddd.h..wdl \
-    ddddd.hsd";
+const LAYOUTS: [u8; 115] = *b"ndddd.h..dddd \
+    ndddd.h..bu \
+    ndddd.hsdbu \
+    ndddd.h..bab \
+    ndddd.h..dl \
+    ndddd.h..dl \
+    ndddd.h..kddfdddd \
+    ndddd.h..wdl \
+    ndddd.hsd";
 
 // The layout of each filter value, from its kind on; of a shadow, as far as its colour.
 const VALUES: [u8; 42] = *b"- vbu vbububu vb vb vb vba vb vb vb vb vdd";
@@ -71,6 +72,15 @@ fn put_part(out: &mut Line, at: usize, text: &[u8], start: u64, len: u64) -> usi
     put_hex(out, at, funciri::link(text, part))
 }
 
+// The number that document 01 has for a refusal: it splits neither 9 nor 10.
+fn base_number(number: u64) -> u64 {
+    match number {
+        22 => 9,
+        23 | 24 => 10,
+        _ => number,
+    }
+}
+
 // An entry by its letter, after the entry `before`.
 fn put_entry(out: &mut Line, at: usize, letter: u8, before: u64, n: u64, text: &[u8]) -> usize {
     match letter {
@@ -78,6 +88,7 @@ fn put_entry(out: &mut Line, at: usize, letter: u8, before: u64, n: u64, text: &
         b'd' => put_decimal(out, at, b' ', n),
         b',' => put_decimal(out, at, b',', n),
         b'b' => put_bits(out, at, n),
+        b'n' => put_decimal(out, at, b' ', base_number(n)),
         b'h' => put_part(out, at, text, before, n),
         b'l' => {
             let k = put_decimal(out, at, b' ', n);

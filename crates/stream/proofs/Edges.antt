@@ -1,6 +1,6 @@
 -- The edge: what an admitted text is, and the laws of its three refusals.
 use Prim.Native.Nat.{ℕ, _+_, _-_, _≤_, _<_}
-use mathlib.Core.Bool.{Bool, true, false, cond, not}
+use mathlib.Core.Bool.{Bool, true, false, cond, not, _||_}
 use mathlib.Core.List.{List, _++_}
 use mathlib.Core.Path.{_≡_, refl, sym, _∙_}
 use native.Mathlib.Omega.{arith}
@@ -10,8 +10,10 @@ use lib.ListN.{length, getD, List·getD-eq-default}
 use Rattle.bytes.specs.Bytes.{isTail}
 use Rattle.utf8.specs.Characters.{utf8Of, onCharacter, firsts, heads, characters, calcCharPosAt}
 use Rattle.stream.specs.Moves.{moveFault, moveRefusal}
-use Rattle.stream.specs.Refusals.{numberOf, bareRefusal, illFormed, refusalOf, admitUtf8, admitText, admitPlace, thenAdmitted}
+use Rattle.stream.specs.Refusals.{numberOf, bareRefusal, illFormed, refusalOf, outside, isOutsideDomain, admitUtf8, admitText, admitPlace, thenAdmitted}
 use Rattle.bytes.specs.declared.Place.{Place}
+use Rattle.stream.specs.declared.Trouble.{Trouble}
+use Rattle.stream.specs.declared.Trouble.the-variants as T
 use Rattle.stream.specs.declared.Fault.{Fault}
 use Rattle.stream.specs.declared.Refusal.{Refusal}
 use Rattle.utf8.specs.declared.Utf8.{Utf8}
@@ -126,6 +128,28 @@ module _ (s : List ℕ) (f : Fault) {n : ℕ} {r : Refusal} (q : n ≡ numberOf 
     pub refusal-plain : 5 < n → (n ≡ 7 → ⊥) → (n ≡ 8 → ⊥) → _≡_ {A = Refusal} (record { number = r .number; position = record { 0 = p }; place = r .place; found = r .found; wanted = r .wanted; part = r .part }) (refusalOf s f)
     unfolding refusalOf
     refusal-plain h x y = simp (b, ← q, lt-leb n 5 h, ne-eqb n 7 x, ne-eqb n 8 y, w)
+
+-- a number outside the domain is exactly 10, 23 or 24
+pub outside-is : (f : Fault) → isOutsideDomain f ≡ (let n = numberOf (f .trouble) in eqb n 10 || (eqb n 23 || eqb n 24))
+unfolding isOutsideDomain numberOf
+outside-is f = go (f .trouble)
+  where
+    go : (t : Trouble) → outside t ≡ (let n = numberOf t in eqb n 10 || (eqb n 23 || eqb n 24))
+    go T.UnexpectedEndOfStream = refl
+    go T.InvalidValue = refl
+    go T.UnexpectedData = refl
+    go T.InvalidChar = refl
+    go T.InvalidString = refl
+    go T.WrongByte = refl
+    go T.TextEnded = refl
+    go T.WrongForm = refl
+    go T.TooLarge = refl
+    go T.ScaleOutOfRange = refl
+    go T.PercentageValue = refl
+    go T.NegativeValue = refl
+    go T.InvalidAngle = refl
+    go T.MissingDropShadowOffset = refl
+    go T.InvalidUrl = refl
 
 -- shift at the edge: the same fault behind a UTF-8 text
 pub refusal-shift : (a b : List ℕ) (f : Fault) → utf8Of a ≡ WellFormed → refusalOf (a ++ b) (moveFault (length a) f) ≡ moveRefusal (length a) (characters a) (refusalOf b f)

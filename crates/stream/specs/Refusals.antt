@@ -1,6 +1,6 @@
 -- The edge: document 01's record of a refusal, and which text may be read.
 use Prim.Native.Nat.{ℕ, _-_}
-use mathlib.Core.Bool.{Bool, cond}
+use mathlib.Core.Bool.{Bool, true, false, cond}
 use mathlib.Core.List.{List}
 use lib.Dec.{leb, eqb}
 use lib.ListN.{length}
@@ -15,7 +15,7 @@ use Rattle.utf8.specs.declared.Utf8.the-variants.{WellFormed, IllFormed}
 use Rattle.stream.specs.declared.Admission.{Admission}
 use Rattle.stream.specs.declared.Admission.the-variants as A
 
--- "Refusal numbers", the table's column No.
+-- "Refusal numbers", the table's column No.; document 02, P8: "Split 9: wrong byte keeps 9, text ended becomes 22. Split 10: wrong form keeps 10, M too large becomes 23, scale out of range 24"
 unfoldable pub numberOf : Trouble → ℕ
 numberOf T.UnexpectedEndOfStream = 4
 numberOf T.InvalidValue = 5
@@ -23,10 +23,10 @@ numberOf T.UnexpectedData = 6
 numberOf T.InvalidChar = 7
 numberOf T.InvalidString = 8
 numberOf T.WrongByte = 9
-numberOf T.TextEnded = 9
+numberOf T.TextEnded = 22
 numberOf T.WrongForm = 10
-numberOf T.TooLarge = 10
-numberOf T.ScaleOutOfRange = 10
+numberOf T.TooLarge = 23
+numberOf T.ScaleOutOfRange = 24
 numberOf T.PercentageValue = 11
 numberOf T.NegativeValue = 12
 numberOf T.InvalidAngle = 13
@@ -50,9 +50,27 @@ refusalOf s f =
       part = record { start = record { 0 = cond (eqb n 8) (f .from .0) 0 }; len = cond (eqb n 8) (f .to .0 - f .from .0) 0 };
     }
 
--- "Refusal 10 is never swallowed": whether a fault is 10
+-- "Every other number is 10": wrong form, M too large, scale out of range
+abbrev pub outside : Trouble → Bool
+outside T.UnexpectedEndOfStream = false
+outside T.InvalidValue = false
+outside T.UnexpectedData = false
+outside T.InvalidChar = false
+outside T.InvalidString = false
+outside T.WrongByte = false
+outside T.TextEnded = false
+outside T.WrongForm = true
+outside T.TooLarge = true
+outside T.ScaleOutOfRange = true
+outside T.PercentageValue = false
+outside T.NegativeValue = false
+outside T.InvalidAngle = false
+outside T.MissingDropShadowOffset = false
+outside T.InvalidUrl = false
+
+-- "Refusal 10 is never swallowed", and document 02 treats 23 and 24 as 10: whether a fault is a number outside the domain
 unfoldable pub isOutsideDomain : Fault → Bool
-isOutsideDomain f = eqb (numberOf (f .trouble)) 10
+isOutsideDomain f = outside (f .trouble)
 
 -- 2: "place of the first ill-formed sequence"
 abbrev pub illFormed : Place → Refusal

@@ -1,4 +1,4 @@
-// The edge: which text may be read, and the numbers of document 01.
+// The edge: which text may be read, and the numbers of documents 01 and 02.
 ghost use mathlib.Core.Path.{_≡_};
 ghost use Prim.Native.Nat.{_-_};
 ghost use Rattle.utf8.specs.Characters.{utf8Of, onCharacter};
@@ -25,10 +25,10 @@ fn number_of(trouble: Trouble) -> u8
         Trouble::InvalidChar => 7,
         Trouble::InvalidString => 8,
         Trouble::WrongByte => 9,
-        Trouble::TextEnded => 9,
+        Trouble::TextEnded => 22,
         Trouble::WrongForm => 10,
-        Trouble::TooLarge => 10,
-        Trouble::ScaleOutOfRange => 10,
+        Trouble::TooLarge => 23,
+        Trouble::ScaleOutOfRange => 24,
         Trouble::PercentageValue => 11,
         Trouble::NegativeValue => 12,
         Trouble::InvalidAngle => 13,
@@ -100,7 +100,12 @@ pub fn is_outside_domain(fault: Fault) -> bool
     ensures { λ r. ⌜ r ≡ isOutsideDomain fault ⌝ }
 {
     let trouble = fault.trouble;
-    number_of(trouble) == 10
+    match trouble {
+        Trouble::WrongForm => true,
+        Trouble::TooLarge => true,
+        Trouble::ScaleOutOfRange => true,
+        _ => false,
+    }
 }
 
 // Whether a UTF-8 text has a character's first byte, or its end, at a place.
