@@ -28,15 +28,18 @@ enum homeludaf_code {
     HOMELUDAF_UNEXPECTED_DATA = 6,
     HOMELUDAF_INVALID_CHAR = 7,            /* tells the byte found and the byte wanted */
     HOMELUDAF_INVALID_STRING = 8,          /* tells the part found */
-    HOMELUDAF_INVALID_NUMBER = 9,
-    HOMELUDAF_NUMBER_OUTSIDE_DOMAIN = 10,
+    HOMELUDAF_INVALID_NUMBER = 9,          /* another byte stands where a number is to start */
+    HOMELUDAF_NUMBER_OUTSIDE_DOMAIN = 10,  /* does not keep to the form; 23 and 24 are outside the domain, too */
     HOMELUDAF_PERCENTAGE_VALUE = 11,
     HOMELUDAF_NEGATIVE_VALUE = 12,
     HOMELUDAF_INVALID_ANGLE = 13,
     HOMELUDAF_MISSING_SHADOW_OFFSET = 14,
     HOMELUDAF_INVALID_URL = 15,
     HOMELUDAF_BUFFER_TOO_SHORT = 16,       /* what is lent has no room for the text */
-    HOMELUDAF_NO_KEYWORD = 17              /* no keyword has the colour, or it is not opaque */
+    HOMELUDAF_NO_KEYWORD = 17,             /* no keyword has the colour, or it is not opaque */
+    HOMELUDAF_NUMBER_ENDED = 22,           /* the text has ended where a number is to start */
+    HOMELUDAF_NUMBER_TOO_LARGE = 23,       /* its digits, joined, make more than 9,007,199,254,740,991 */
+    HOMELUDAF_NUMBER_SCALE = 24            /* its exponent less its fraction digits lies outside -22 to 22 */
 };
 
 /* a step of a list */

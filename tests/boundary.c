@@ -156,6 +156,27 @@ static void other_whole_texts(void)
     expect("inherited", a.result.inherited.whose == HOMELUDAF_WHOSE_PARENT && a.result.inherited.part.start == 2 && a.result.inherited.part.length == 3);
 }
 
+static void number_troubles(void)
+{
+    static const struct {
+        struct text text;
+        uint64_t code;
+    } troubles[] = {
+        { TEXT_OF(" x"), HOMELUDAF_INVALID_NUMBER },
+        { TEXT_OF(" "), HOMELUDAF_NUMBER_ENDED },
+        { TEXT_OF(" 9007199254740992."), HOMELUDAF_NUMBER_OUTSIDE_DOMAIN },
+        { TEXT_OF(" 9007199254740992e23"), HOMELUDAF_NUMBER_TOO_LARGE },
+        { TEXT_OF(" 0e23"), HOMELUDAF_NUMBER_SCALE },
+    };
+    for (size_t i = 0; i < COUNT(troubles); i++) {
+        struct homeludaf_answer a;
+        memset(&a, 0xff, sizeof a);
+        homeludaf_length((const uint8_t *)troubles[i].text.at, troubles[i].text.length, &a);
+        show("length refused", &a);
+        expect("length refused", a.code == troubles[i].code && a.position == 2 && a.result.length.bits == 0);
+    }
+}
+
 static void packed_numbers(void)
 {
     struct homeludaf_answer a;
@@ -281,6 +302,7 @@ int main(void)
 {
     whole_colors();
     other_whole_texts();
+    number_troubles();
     packed_numbers();
     set_back();
     length_steps();

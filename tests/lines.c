@@ -1,7 +1,7 @@
 /* Answers cases over the archive, by the line protocol of the runs (docs/RUNS.md): one case a line in, one answer a line out.
  *
- *     lines base        the cases of the program `replay`, with the same answers
- *     lines             these, and the writers of colours (document 02)
+ *     lines base        the cases of the program `replay`, with the same answers: 9 for 22, 10 for 23 and 24
+ *     lines             these with every refusal's own number, and the writers of colours (document 02)
  *
  * A case is a call and its operands, one space between: a text is its bytes, two lower-case hex digits each, `-` for none; a number is decimal.
  * A line that is no case gets the answer `?` alone. */
@@ -34,6 +34,8 @@ struct call {
     const char *takes;                                 /* its operands: p a list place, t a text, f a flag, s a size, c a channel */
     void (*answer)(const struct operands *);
 };
+
+static bool base;                                      /* whether it speaks as `replay` does */
 
 #define NAMED(names, n) named(names, sizeof (names) / sizeof (names)[0], n)
 
@@ -96,10 +98,26 @@ static void put_part(struct homeludaf_part part)
     put_number(part.length);
 }
 
+/* A refusal's number; document 01, by which `replay` speaks, splits neither 9 nor 10. */
+static uint64_t told_number(uint64_t code)
+{
+    if (!base)
+        return code;
+    switch (code) {
+    case HOMELUDAF_NUMBER_ENDED:
+        return HOMELUDAF_INVALID_NUMBER;
+    case HOMELUDAF_NUMBER_TOO_LARGE:
+    case HOMELUDAF_NUMBER_SCALE:
+        return HOMELUDAF_NUMBER_OUTSIDE_DOMAIN;
+    default:
+        return code;
+    }
+}
+
 /* What every answer begins with: the refusal, whose part lies in `text`. */
 static void put_refusal(const struct homeludaf_answer *a, struct bytes text)
 {
-    printf("%" PRIu64, a->code);
+    printf("%" PRIu64, told_number(a->code));
     put_number(a->position);
     put_number(a->place);
     put_number(a->found);
@@ -456,7 +474,8 @@ static bool read_line(struct room *room, struct bytes *line)
 
 int main(int argc, char **argv)
 {
-    if (argc > 2 || (argc == 2 && strcmp(argv[1], "base") != 0)) {
+    base = argc == 2 && strcmp(argv[1], "base") == 0;
+    if (argc != 1 && !base) {
         fputs("usage: lines [base] <CASES >ANSWERS\n", stderr);
         return 2;
     }
