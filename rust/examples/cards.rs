@@ -45,18 +45,18 @@ fn next_attribute(input: &str) -> Option<(&str, &str, &str)> {
 }
 
 fn paint(name: &str, text: &str) {
-    match Paint::from_str(text) {
+    match Paint::read(text) {
         Ok(paint) => println!("{name}: {paint:?}"),
-        Err(e) => refused(name, text, counted_from(text), &e.to_string(), e.refusal()),
+        Err(refusal) => refused(name, text, counted_from(text), refusal),
     }
 }
 
 fn filter(name: &str, text: &str) {
     let mut values = 0;
-    for value in FilterValueListParser::from(text) {
+    for value in FilterValueListParser::read(text) {
         match value {
             Ok(value) => println!("{name}: {value:?}"),
-            Err(e) => refused(name, text, 0, &e.to_string(), e.refusal()),
+            Err(refusal) => refused(name, text, 0, refusal),
         }
         values += 1;
     }
@@ -83,8 +83,8 @@ fn counted_from(text: &str) -> usize {
 }
 
 /// Says why; the text on a line of its own, and a caret where a position is told.
-fn refused(name: &str, text: &str, from: usize, why: &str, refusal: Refusal) {
-    println!("{name}: refused by {}: {why}", refusal.number);
+fn refused(name: &str, text: &str, from: usize, refusal: Refusal) {
+    println!("{name}: refused by {}: {refusal}", refusal.number);
     // One column for each character, so that the caret stands where it should.
     let line: String = text
         .chars()

@@ -1,8 +1,8 @@
 //! Angles.
 
 use crate::boundary::{self, Room};
-use crate::record::RESULT;
-use crate::Error;
+use crate::record::{Record, RESULT};
+use crate::{Error, Refusal};
 
 /// List of all SVG angle units.
 #[derive(Clone, Copy, PartialEq, Eq, Debug)]
@@ -45,6 +45,30 @@ impl Angle {
             AngleUnit::Turns => self.number * 360.0,
         }
     }
+
+    /// Parses as `from_str` does; a refusal comes whole.
+    ///
+    /// ```
+    /// use homeludaf::{Angle, AngleUnit};
+    ///
+    /// assert_eq!(Angle::read("90deg"), Ok(Angle::new(90.0, AngleUnit::Degrees)));
+    /// let refusal = Angle::read("90 deg").unwrap_err();
+    /// assert_eq!((refusal.number, refusal.position), (6, 3));
+    /// ```
+    #[inline]
+    pub fn read(text: &str) -> Result<Self, Refusal> {
+        Self::parse(text, Refusal::of)
+    }
+
+    #[inline(always)]
+    fn parse<E>(text: &str, refused: impl Fn(&Record, &str) -> E) -> Result<Self, E> {
+        let mut room = Room::new();
+        let record = boundary::angle(text, &mut room);
+        if record.is_refused() {
+            return Err(refused(record, text));
+        }
+        Ok(record.angle(RESULT))
+    }
 }
 
 impl std::str::FromStr for Angle {
@@ -53,12 +77,7 @@ impl std::str::FromStr for Angle {
     /// Parses an angle. Units are lower case; spaces may stand before it and not after it.
     #[inline]
     fn from_str(text: &str) -> Result<Self, Error> {
-        let mut room = Room::new();
-        let record = boundary::angle(text, &mut room);
-        if record.is_refused() {
-            return Err(Error::of(record, text));
-        }
-        Ok(record.angle(RESULT))
+        Self::parse(text, Error::of)
     }
 }
 

@@ -4,7 +4,8 @@ use std::fmt;
 use std::ops::Deref;
 
 use crate::boundary::{self, Room, Text};
-use crate::Error;
+use crate::record::Record;
+use crate::{Error, Refusal};
 
 /// Representation of the [`<color>`] type.
 ///
@@ -70,6 +71,29 @@ impl Color {
     #[inline]
     pub fn blue() -> Self {
         Self::new_rgb(0, 0, 255)
+    }
+
+    /// Parses as `from_str` does; a refusal comes whole.
+    ///
+    /// ```
+    /// use homeludaf::Color;
+    ///
+    /// assert_eq!(Color::read("red"), Ok(Color::red()));
+    /// let refusal = Color::read("rgba(0,0,0,50%)").unwrap_err();
+    /// assert_eq!((refusal.number, refusal.position), (7, 14));
+    /// assert_eq!((refusal.found, refusal.wanted), (b'%', b')'));
+    /// ```
+    #[inline]
+    pub fn read(text: &str) -> Result<Self, Refusal> {
+        Self::parse(text, Refusal::of)
+    }
+
+    #[inline(always)]
+    fn parse<E>(text: &str, refused: impl Fn(&Record, &str) -> E) -> Result<Self, E> {
+        match boundary::color(text, &mut Room::new()) {
+            Ok(value) => Ok(value.color()),
+            Err(record) => Err(refused(record, text)),
+        }
     }
 
     /// The colour as `#` and lower-case hex digits: six if alpha is 255, else eight. It reads back
@@ -173,9 +197,6 @@ impl std::str::FromStr for Color {
     /// notation of four and eight digits.
     #[inline]
     fn from_str(text: &str) -> Result<Self, Error> {
-        match boundary::color(text, &mut Room::new()) {
-            Ok(value) => Ok(value.color()),
-            Err(refused) => Err(Error::of(refused, text)),
-        }
+        Self::parse(text, Error::of)
     }
 }

@@ -1,63 +1,16 @@
-//! Refusals: svgtypes' errors, and the numbers behind them.
+//! svgtypes' errors, and the numbers behind them.
 
 use std::fmt;
 
 use crate::record::{foreign, Record};
+use crate::refusal::{self, Refusal};
 
-/// What a link's function starts with: the only string that a reader here ever wants.
-const LINK_START: &str = "url(";
-
-// The texts of the two refusals that svgtypes has not: what was found, what was wanted.
+// The texts of the refusals that svgtypes has not: what was found, what was wanted.
 const TOO_LONG: [&str; 2] = ["a longer one", "a text of at most 4096 bytes"];
-const OUTSIDE: [&str; 2] = ["one outside it", "a number within the domain"];
-
-/// A refusal by its number.
-///
-/// | Number | Given when |
-/// |---|---|
-/// | 1 | the text has over 4,096 bytes |
-/// | 4 | [`Error::UnexpectedEndOfStream`] |
-/// | 5 | [`Error::InvalidValue`] |
-/// | 6 | [`Error::UnexpectedData`] |
-/// | 7 | [`Error::InvalidChar`] |
-/// | 8 | [`Error::InvalidString`], where `url(` was wanted |
-/// | 9 | [`Error::InvalidNumber`]: no number starts here |
-/// | 10 | a number is outside the domain |
-/// | 11 | [`FilterValueListParserError::PercentageValue`] |
-/// | 12 | [`FilterValueListParserError::NegativeValue`] |
-/// | 13 | [`FilterValueListParserError::InvalidAngle`] |
-/// | 14 | [`FilterValueListParserError::MissingDropShadowOffset`] |
-/// | 15 | [`FilterValueListParserError::InvalidUrl`] |
-///
-/// 2 (not UTF-8) and 3 (a bad list place) cannot come from a `&str` and from a list's own places.
-///
-/// [`FilterValueListParserError::PercentageValue`]: crate::FilterValueListParserError::PercentageValue
-/// [`FilterValueListParserError::NegativeValue`]: crate::FilterValueListParserError::NegativeValue
-/// [`FilterValueListParserError::InvalidAngle`]: crate::FilterValueListParserError::InvalidAngle
-/// [`FilterValueListParserError::MissingDropShadowOffset`]: crate::FilterValueListParserError::MissingDropShadowOffset
-/// [`FilterValueListParserError::InvalidUrl`]: crate::FilterValueListParserError::InvalidUrl
-#[derive(Clone, Copy, PartialEq, Eq, Debug)]
-pub struct Refusal {
-    /// The number in the table above; 0 for an error that no reader here gives.
-    pub number: u32,
-    /// The character, counted from 1, at which the reading was refused; 0 where none is told.
-    ///
-    /// Of a paint it counts from the first character of the fallback, and for a plain colour from
-    /// the first that trimming leaves.
-    pub position: usize,
-    /// The byte, counted from 0, of the first sequence that is not UTF-8: always 0 for a `&str`.
-    pub place: usize,
-}
-
-impl Refusal {
-    pub(crate) fn at(number: u32, position: usize) -> Self {
-        Refusal {
-            number,
-            position,
-            place: 0,
-        }
-    }
-}
+const WITHIN: &str = "a number within the domain";
+const WRONG_FORM: [&str; 2] = ["one outside it", WITHIN];
+const TOO_LARGE: [&str; 2] = ["one that is too large", WITHIN];
+const FAR_SCALE: [&str; 2] = ["one whose scale is out of range", WITHIN];
 
 /// List of all errors.
 ///
@@ -67,9 +20,13 @@ impl Refusal {
 /// - a text over 4,096 bytes: "expected 'a text of at most 4096 bytes' not 'a longer one' at
 ///   position 0";
 /// - a number outside the domain: "expected 'a number within the domain' not 'one outside it' at
-///   position 5". For some of these (`-`, `.`, `1e`, `1e400`) svgtypes has `InvalidNumber`.
+///   position 5", for a number that does not keep to the form; or, in its place, 'one that is too large'
+///   or 'one whose scale is out of range'. For some of these (`-`, `.`, `1e`, `1e400`) svgtypes has
+///   `InvalidNumber`.
 ///
-/// [`Error::refusal`] tells them apart by number.
+/// [`Error::refusal`] tells them apart by number. It cannot tell 22 from 9, which both are
+/// [`Error::InvalidNumber`]: who wants to know calls `read` of the type, which gives the [`Refusal`]
+/// itself.
 #[derive(Debug, PartialEq, Eq)]
 pub enum Error {
     /// An input data ended earlier than expected.
@@ -99,20 +56,20 @@ pub enum Error {
 }
 
 impl Error {
-    /// The refusal's number, position and place.
+    /// The refusal's number and position, and the bytes found and wanted of a 7.
+    ///
+    /// An error keeps no more of a refusal: 22 comes as 9, and the part of an 8 is empty.
     pub fn refusal(&self) -> Refusal {
         match *self {
             Error::UnexpectedEndOfStream => Refusal::at(4, 0),
             Error::InvalidValue => Refusal::at(5, 0),
             Error::UnexpectedData(position) => Refusal::at(6, position),
-            Error::InvalidChar(_, position) => Refusal::at(7, position),
+            Error::InvalidChar(ref bytes, position) => {
+                let byte = |i| bytes.get(i).copied().unwrap_or(0);
+                Refusal::at(7, position).with_bytes([byte(0), byte(1)])
+            }
             Error::InvalidString(ref strings, position) => {
-                let number = match strings.get(1) {
-                    Some(wanted) if wanted == TOO_LONG[1] => 1,
-                    Some(wanted) if wanted == OUTSIDE[1] => 10,
-                    _ => 8,
-                };
-                Refusal::at(number, position)
+                Refusal::at(number_of(strings), position)
             }
             Error::InvalidNumber(position) => Refusal::at(9, position),
             Error::InvalidIdent => Refusal::at(0, 0),
@@ -126,7 +83,7 @@ impl Error {
             4 => Error::UnexpectedEndOfStream,
             5 => Error::InvalidValue,
             6 => Error::UnexpectedData(record.position()),
-            9 => Error::InvalidNumber(record.position()),
+            9 | 22 => Error::InvalidNumber(record.position()),
             _ => Error::with_texts(record, text),
         }
     }
@@ -139,12 +96,26 @@ impl Error {
             1 => Error::InvalidString(TOO_LONG.map(String::from).into(), position),
             7 => Error::InvalidChar(record.found_and_wanted().into(), position),
             8 => {
-                let strings = [record.found_part(text), LINK_START];
+                let strings = [record.found_part(text), refusal::LINK_START];
                 Error::InvalidString(strings.map(String::from).into(), position)
             }
-            10 => Error::InvalidString(OUTSIDE.map(String::from).into(), position),
+            10 => Error::InvalidString(WRONG_FORM.map(String::from).into(), position),
+            23 => Error::InvalidString(TOO_LARGE.map(String::from).into(), position),
+            24 => Error::InvalidString(FAR_SCALE.map(String::from).into(), position),
             other => foreign("refusal", other),
         }
+    }
+}
+
+/// The number of an [`Error::InvalidString`], by its texts.
+fn number_of(strings: &[String]) -> u32 {
+    let is = |texts: [&str; 2]| strings == texts;
+    match strings.get(1).map(String::as_str) {
+        Some(wanted) if wanted == TOO_LONG[1] => 1,
+        Some(WITHIN) if is(TOO_LARGE) => 23,
+        Some(WITHIN) if is(FAR_SCALE) => 24,
+        Some(WITHIN) => 10,
+        _ => 8,
     }
 }
 

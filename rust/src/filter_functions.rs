@@ -3,10 +3,9 @@
 use std::fmt;
 
 use crate::boundary::Ahead;
-use crate::error::Refusal;
 use crate::list::Walk;
 use crate::record::{foreign, Record, RESULT};
-use crate::{Angle, Color, Error, Length};
+use crate::{Angle, Color, Error, Length, Refusal};
 
 /// Representation of the [`<filter-function>`] | [`<url>`] type.
 ///
@@ -106,7 +105,7 @@ pub enum FilterValueListParserError {
 }
 
 impl FilterValueListParserError {
-    /// The refusal's number, position and place.
+    /// What the error keeps of its refusal: see [`Error::refusal`].
     pub fn refusal(&self) -> Refusal {
         match *self {
             Self::PercentageValue(position) => Refusal::at(11, position),
@@ -191,6 +190,24 @@ impl std::error::Error for FilterValueListParserError {
 #[derive(Clone, Copy, PartialEq, Eq, Debug)]
 pub struct FilterValueListParser<'a>(Walk<'a>);
 
+impl<'a> FilterValueListParser<'a> {
+    /// The same values; a refusal comes whole.
+    ///
+    /// ```
+    /// use homeludaf::{FilterValue, FilterValueListParser};
+    ///
+    /// let mut list = FilterValueListParser::read("url(#a) blur(1e23)");
+    /// assert_eq!(list.next(), Some(Ok(FilterValue::Url("a"))));
+    /// let refusal = list.next().unwrap().unwrap_err();
+    /// assert_eq!((refusal.number, refusal.position), (24, 14));
+    /// assert_eq!(list.next(), None);
+    /// ```
+    #[inline]
+    pub fn read(text: &'a str) -> FilterValueListReader<'a> {
+        FilterValueListReader(Walk::new(text))
+    }
+}
+
 impl<'a> From<&'a str> for FilterValueListParser<'a> {
     #[inline]
     fn from(text: &'a str) -> Self {
@@ -208,5 +225,18 @@ impl<'a> Iterator for FilterValueListParser<'a> {
             FilterValue::of,
             FilterValueListParserError::of,
         )
+    }
+}
+
+/// A [`FilterValueListParser`] that tells its refusal whole: what [`FilterValueListParser::read`] gives.
+#[derive(Clone, Copy, PartialEq, Eq, Debug)]
+pub struct FilterValueListReader<'a>(Walk<'a>);
+
+impl<'a> Iterator for FilterValueListReader<'a> {
+    type Item = Result<FilterValue<'a>, Refusal>;
+
+    #[inline]
+    fn next(&mut self) -> Option<Self::Item> {
+        self.0.next(Ahead::filters, FilterValue::of, Refusal::of)
     }
 }

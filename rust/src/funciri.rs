@@ -2,7 +2,7 @@
 
 use crate::boundary::{self, Room};
 use crate::record::{Record, RESULT};
-use crate::Error;
+use crate::{Error, Refusal};
 
 /// Representation of the [`<IRI>`] type: `#link`.
 ///
@@ -17,7 +17,20 @@ impl<'a> IRI<'a> {
     #[allow(clippy::should_implement_trait)]
     #[inline]
     pub fn from_str(text: &'a str) -> Result<Self, Error> {
-        link(boundary::iri(text, &mut Room::new()), text).map(Self)
+        link(boundary::iri(text, &mut Room::new()), text, Error::of).map(Self)
+    }
+
+    /// Parses as `from_str` does; a refusal comes whole.
+    ///
+    /// ```
+    /// use homeludaf::IRI;
+    ///
+    /// assert_eq!(IRI::read("#a"), Ok(IRI("a")));
+    /// assert_eq!(IRI::read("#").unwrap_err().number, 5);
+    /// ```
+    #[inline]
+    pub fn read(text: &'a str) -> Result<Self, Refusal> {
+        link(boundary::iri(text, &mut Room::new()), text, Refusal::of).map(Self)
     }
 }
 
@@ -34,14 +47,37 @@ impl<'a> FuncIRI<'a> {
     #[allow(clippy::should_implement_trait)]
     #[inline]
     pub fn from_str(text: &'a str) -> Result<Self, Error> {
-        link(boundary::func_iri(text, &mut Room::new()), text).map(Self)
+        link(boundary::func_iri(text, &mut Room::new()), text, Error::of).map(Self)
+    }
+
+    /// Parses as `from_str` does; a refusal comes whole.
+    ///
+    /// ```
+    /// use homeludaf::FuncIRI;
+    ///
+    /// assert_eq!(FuncIRI::read("url(#a)"), Ok(FuncIRI("a")));
+    /// let refusal = FuncIRI::read("uri(#a)").unwrap_err();
+    /// assert_eq!(refusal.part.of("uri(#a)"), Some("uri("));
+    /// ```
+    #[inline]
+    pub fn read(text: &'a str) -> Result<Self, Refusal> {
+        link(
+            boundary::func_iri(text, &mut Room::new()),
+            text,
+            Refusal::of,
+        )
+        .map(Self)
     }
 }
 
 #[inline(always)]
-fn link<'a>(record: &Record, text: &'a str) -> Result<&'a str, Error> {
+fn link<'a, E>(
+    record: &Record,
+    text: &'a str,
+    refused: impl Fn(&Record, &str) -> E,
+) -> Result<&'a str, E> {
     if record.is_refused() {
-        return Err(Error::of(record, text));
+        return Err(refused(record, text));
     }
     Ok(record.part(RESULT, text))
 }

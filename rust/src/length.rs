@@ -3,7 +3,7 @@
 use crate::boundary::{self, Ahead, Room};
 use crate::list::Walk;
 use crate::record::{Record, RESULT};
-use crate::Error;
+use crate::{Error, Refusal};
 
 /// List of all SVG length units.
 #[derive(Clone, Copy, PartialEq, Eq, Debug)]
@@ -51,6 +51,31 @@ impl Length {
     pub fn zero() -> Self {
         Self::new_number(0.0)
     }
+
+    /// Parses as `from_str` does; a refusal comes whole.
+    ///
+    /// ```
+    /// use homeludaf::Length;
+    ///
+    /// assert_eq!(Length::read("5"), Ok(Length::new_number(5.0)));
+    /// for (text, number) in [("x", 9), ("", 22), ("1.", 10), ("9007199254740992", 23), ("1e23", 24)] {
+    ///     assert_eq!(Length::read(text).unwrap_err().number, number);
+    /// }
+    /// ```
+    #[inline]
+    pub fn read(text: &str) -> Result<Self, Refusal> {
+        Self::parse(text, Refusal::of)
+    }
+
+    #[inline(always)]
+    fn parse<E>(text: &str, refused: impl Fn(&Record, &str) -> E) -> Result<Self, E> {
+        let mut room = Room::new();
+        let record = boundary::length(text, &mut room);
+        if record.is_refused() {
+            return Err(refused(record, text));
+        }
+        Ok(record.length(RESULT))
+    }
 }
 
 impl Default for Length {
@@ -66,12 +91,7 @@ impl std::str::FromStr for Length {
     /// Parses a length. Units are lower case; spaces may stand before it and not after it.
     #[inline]
     fn from_str(text: &str) -> Result<Self, Error> {
-        let mut room = Room::new();
-        let record = boundary::length(text, &mut room);
-        if record.is_refused() {
-            return Err(Error::of(record, text));
-        }
-        Ok(record.length(RESULT))
+        Self::parse(text, Error::of)
     }
 }
 
@@ -91,6 +111,24 @@ impl std::str::FromStr for Length {
 #[derive(Clone, Copy, PartialEq, Eq, Debug)]
 pub struct LengthListParser<'a>(Walk<'a>);
 
+impl<'a> LengthListParser<'a> {
+    /// The same lengths; a refusal comes whole.
+    ///
+    /// ```
+    /// use homeludaf::{Length, LengthListParser};
+    ///
+    /// let mut list = LengthListParser::read("10, ");
+    /// assert_eq!(list.next(), Some(Ok(Length::new_number(10.0))));
+    /// let refusal = list.next().unwrap().unwrap_err();
+    /// assert_eq!((refusal.number, refusal.position), (22, 5));
+    /// assert_eq!(list.next(), None);
+    /// ```
+    #[inline]
+    pub fn read(text: &'a str) -> LengthListReader<'a> {
+        LengthListReader(Walk::new(text))
+    }
+}
+
 impl<'a> From<&'a str> for LengthListParser<'a> {
     #[inline]
     fn from(text: &'a str) -> Self {
@@ -103,7 +141,24 @@ impl Iterator for LengthListParser<'_> {
 
     #[inline]
     fn next(&mut self) -> Option<Self::Item> {
-        let value = |record: &Record, _: &str| record.length(RESULT);
-        self.0.next(Ahead::lengths, value, Error::of)
+        self.0.next(Ahead::lengths, length_of, Error::of)
     }
+}
+
+/// A [`LengthListParser`] that tells its refusal whole: what [`LengthListParser::read`] gives.
+#[derive(Clone, Copy, PartialEq, Eq, Debug)]
+pub struct LengthListReader<'a>(Walk<'a>);
+
+impl Iterator for LengthListReader<'_> {
+    type Item = Result<Length, Refusal>;
+
+    #[inline]
+    fn next(&mut self) -> Option<Self::Item> {
+        self.0.next(Ahead::lengths, length_of, Refusal::of)
+    }
+}
+
+#[inline(always)]
+fn length_of(record: &Record, _: &str) -> Length {
+    record.length(RESULT)
 }

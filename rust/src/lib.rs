@@ -11,13 +11,22 @@
 //! assert_eq!(paint, Paint::FuncIRI("gradient", Some(PaintFallback::Color(Color::red()))));
 //! ```
 //!
-//! What svgtypes lacks: every refusal's number, position and place, by [`Error::refusal`] and
-//! [`FilterValueListParserError::refusal`]; and a colour as text, by [`Color::hex`],
-//! [`Color::hex_short`] and [`Color::keyword`].
+//! What svgtypes lacks: `read`, beside each type's `from_str` and each list's `from`, which gives the
+//! whole [`Refusal`] in the place of an error, and shows it in a sentence; and a colour as text, by
+//! [`Color::hex`], [`Color::hex_short`] and [`Color::keyword`].
 //!
-//! Two refusals have no like in svgtypes: a text over 4,096 bytes (number 1), and a number outside
-//! the domain (number 10). Both come as [`Error::InvalidString`], so that [`Error`] has svgtypes'
-//! variants and no others; see there.
+//! ```
+//! use homeludaf::Color;
+//!
+//! let refusal = Color::read("rgb(1e23,0,0)").unwrap_err();
+//! assert_eq!((refusal.number, refusal.position), (24, 5));
+//! assert_eq!(refusal.to_string(), "the number at character 5 has a scale out of range");
+//! ```
+//!
+//! Two kinds of refusals have no like in svgtypes: a text over 4,096 bytes (number 1), and a number
+//! outside the domain (numbers 10, 23 and 24). Of the errors both come as [`Error::InvalidString`],
+//! so that [`Error`] has svgtypes' variants and no others; see there. [`Error::refusal`] and
+//! [`FilterValueListParserError::refusal`] give what an error keeps of its refusal.
 
 #![deny(missing_docs)]
 #![deny(missing_debug_implementations)]
@@ -35,11 +44,15 @@ mod list;
 mod packed;
 mod paint;
 mod record;
+mod refusal;
 
 pub use crate::angle::{Angle, AngleUnit};
 pub use crate::color::{Color, ColorText};
-pub use crate::error::{Error, Refusal};
-pub use crate::filter_functions::{FilterValue, FilterValueListParser, FilterValueListParserError};
+pub use crate::error::Error;
+pub use crate::filter_functions::{
+    FilterValue, FilterValueListParser, FilterValueListParserError, FilterValueListReader,
+};
 pub use crate::funciri::{FuncIRI, IRI};
-pub use crate::length::{Length, LengthListParser, LengthUnit};
+pub use crate::length::{Length, LengthListParser, LengthListReader, LengthUnit};
 pub use crate::paint::{Paint, PaintFallback};
+pub use crate::refusal::{Part, Refusal};

@@ -2,8 +2,8 @@
 
 use crate::boundary::{self, Room};
 use crate::packed::Packed;
-use crate::record::foreign;
-use crate::{Color, Error};
+use crate::record::{foreign, Record};
+use crate::{Color, Error, Refusal};
 
 /// Representation of the fallback part of the [`<paint>`] type.
 ///
@@ -69,9 +69,31 @@ impl<'a> Paint<'a> {
     #[allow(clippy::should_implement_trait)]
     #[inline]
     pub fn from_str(text: &'a str) -> Result<Self, Error> {
+        Self::parse(text, Error::of)
+    }
+
+    /// Parses as `from_str` does; a refusal comes whole.
+    ///
+    /// Of a plain colour's refusals a paint tells those of numbers outside the domain; any other is a 5.
+    ///
+    /// ```
+    /// use homeludaf::Paint;
+    ///
+    /// assert_eq!(Paint::read("none"), Ok(Paint::None));
+    /// for (text, number) in [("rgb(", 5), ("rgb(1e23,0,0)", 24), ("url(#a) rgb(", 22)] {
+    ///     assert_eq!(Paint::read(text).unwrap_err().number, number);
+    /// }
+    /// ```
+    #[inline]
+    pub fn read(text: &'a str) -> Result<Self, Refusal> {
+        Self::parse(text, Refusal::of)
+    }
+
+    #[inline(always)]
+    fn parse<E>(text: &'a str, refused: impl Fn(&Record, &str) -> E) -> Result<Self, E> {
         match boundary::paint(text, &mut Room::new()) {
             Ok(value) => Ok(Paint::of(value, text)),
-            Err(refused) => Err(Error::of(refused, text)),
+            Err(record) => Err(refused(record, text)),
         }
     }
 

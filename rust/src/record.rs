@@ -37,6 +37,16 @@ impl Record {
         [self.0[3] as u8, self.0[4] as u8]
     }
 
+    /// The byte of the first sequence that is not UTF-8.
+    pub(crate) fn place(&self) -> usize {
+        self.0[2] as usize
+    }
+
+    /// Where the part that a refusal tells starts, and how many bytes it has.
+    pub(crate) fn found_place(&self) -> (usize, usize) {
+        (self.0[5] as usize, self.0[6] as usize)
+    }
+
     /// The part of the text that a refusal tells.
     pub(crate) fn found_part<'a>(&self, text: &'a str) -> &'a str {
         self.part(5, text)

@@ -8,8 +8,8 @@
 //! Set apart, since this crate intends to differ there (document 01):
 //!
 //! - A text over 4,096 bytes. This crate must refuse it by 1, and no other text.
-//! - A number outside the domain, refusal 10. The rule is `form` below. At the position that the
-//!   refusal tells there must be such a number; what the list gave before it must be equal; what
+//! - A number outside the domain, refusals 10, 23 and 24. The rule is `form` below. At the position
+//!   that the refusal tells there must be such a number, with that trouble; what the list gave before it must be equal; what
 //!   svgtypes does from there on is not looked at. Of lengths and angles, whose number stands at
 //!   the start, the refusal must come if and only if the rule says so.
 //!
@@ -236,8 +236,9 @@ enum Form {
     Not,
     /// A number of the domain.
     Inside,
-    /// Any other text that starts with a digit, a sign or a dot.
-    Outside,
+    /// Any other text that starts with a digit, a sign or a dot, by the number of its trouble: the
+    /// form is judged before the digits, the digits before the scale.
+    Outside(u32),
 }
 
 fn form(text: &[u8]) -> Form {
@@ -263,27 +264,30 @@ fn form(text: &[u8]) -> Form {
     }
     // A dot is followed by a digit; without one, digits stand before.
     if joined.is_empty() || (end > whole_end && fraction == 0) {
-        return Form::Outside;
+        return Form::Outside(10);
     }
     let mut exponent = 0;
     if matches!(at(end), b'e' | b'E') && !matches!(at(end + 1), b'm' | b'x') {
         let sign = usize::from(matches!(at(end + 1), b'+' | b'-'));
         let count = digits(end + 1 + sign);
         let written = &text[end + 1..end + 1 + sign + count];
-        // No digits, or too many to be within -22 to 22 whatever the fraction: up to 4,096 bytes.
-        match std::str::from_utf8(written).unwrap().parse::<i64>() {
-            Ok(n) if count > 0 => exponent = n,
-            _ => return Form::Outside,
+        if count == 0 {
+            return Form::Outside(10);
         }
+        // Too many digits to be within -22 to 22 whatever the fraction is, of up to 4,096 bytes.
+        let parsed = std::str::from_utf8(written).unwrap().parse::<i64>();
+        exponent = parsed.unwrap_or(i64::MAX);
     }
     let m = joined.iter().fold(0u64, |m, c| {
         m.saturating_mul(10).saturating_add(u64::from(c - b'0'))
     });
     let scale = exponent.saturating_sub(fraction as i64);
-    if m < 9_007_199_254_740_992 && (-22..=22).contains(&scale) {
-        Form::Inside
+    if m >= 9_007_199_254_740_992 {
+        Form::Outside(23)
+    } else if !(-22..=22).contains(&scale) {
+        Form::Outside(24)
     } else {
-        Form::Outside
+        Form::Inside
     }
 }
 
@@ -319,6 +323,16 @@ fn is_wanted(fault: &Fault, wanted: &str) -> bool {
     fault.strings.get(1).is_some_and(|w| w == wanted)
 }
 
+/// What a refused number is, by what the refusal says was found.
+fn refused_form(fault: &Fault) -> Form {
+    match fault.strings[0].as_str() {
+        "one outside it" => Form::Outside(10),
+        "one that is too large" => Form::Outside(23),
+        "one whose scale is out of range" => Form::Outside(24),
+        _ => Form::Not,
+    }
+}
+
 /// Compares the answers to one text; a difference is told.
 fn compare(
     reader: Reader,
@@ -338,15 +352,17 @@ fn compare(
     let outside = last.filter(|f| is_wanted(f, "a number within the domain"));
     if matches!(reader, Reader::Length | Reader::Angle) {
         let start = text.trim_start_matches([' ', '\t', '\n', '\r']);
-        if outside.is_some() != (form(start.as_bytes()) == Form::Outside) {
-            return Err("refusal 10 belongs to the numbers outside the domain and to no others");
+        if outside.is_some() != matches!(form(start.as_bytes()), Form::Outside(_)) {
+            return Err("10, 23 and 24 belong to the numbers outside the domain and to no others");
         }
     }
     if let Some(fault) = outside {
         let base = counted_from(reader, text);
         let rest = base.char_indices().nth(fault.position.wrapping_sub(1));
-        if rest.is_none_or(|(i, _)| form(&base.as_bytes()[i..]) != Form::Outside) {
-            return Err("at the position of refusal 10 no number outside the domain starts");
+        if rest.is_none_or(|(i, _)| form(&base.as_bytes()[i..]) != refused_form(fault)) {
+            return Err(
+                "at the refusal's position no number outside the domain starts, or another",
+            );
         }
         let before = said.len() - 1;
         if other.get(..before) != Some(&said[..before]) {
@@ -433,21 +449,24 @@ fn the_rule_for_numbers() {
     ] {
         assert_eq!(form(inside.as_bytes()), Form::Inside, "{inside}");
     }
-    for outside in [
-        "-",
-        "+",
-        ".",
-        "1.",
-        "1.e3",
-        "1e",
-        "1e+",
-        "--1",
-        "9007199254740992",
-        "1e23",
-        "0e23",
-        "1e-23",
+    for (outside, number) in [
+        ("-", 10),
+        ("+", 10),
+        (".", 10),
+        ("1.", 10),
+        ("1.e3", 10),
+        ("1e", 10),
+        ("1e+", 10),
+        ("--1", 10),
+        ("9007199254740992.", 10),
+        ("9007199254740992", 23),
+        ("9007199254740992e23", 23),
+        ("1e23", 24),
+        ("0e23", 24),
+        ("1e-23", 24),
+        ("1e99999999999999999999", 24),
     ] {
-        assert_eq!(form(outside.as_bytes()), Form::Outside, "{outside}");
+        assert_eq!(form(outside.as_bytes()), Form::Outside(number), "{outside}");
     }
     for not in ["", "e5", "px", ")", "#"] {
         assert_eq!(form(not.as_bytes()), Form::Not, "{not}");

@@ -60,6 +60,16 @@ fn none_on_the_accepting_path() {
         assert_eq!(list.map(Result::unwrap).count(), 3);
     });
     assert_eq!(count, 0);
+    // Nor is a refusal that comes whole.
+    let count = allocations(|| {
+        for text in ["rgba(0,0,0,50%)", "rgb(1e23,0,0)", "rgb(1, "] {
+            black_box(Color::read(text).unwrap_err());
+        }
+        black_box(FuncIRI::read("uri(#a)").unwrap_err());
+        assert_eq!(LengthListParser::read("1 2 x").count(), 3);
+        assert_eq!(FilterValueListParser::read("blur() blur(-1)").count(), 2);
+    });
+    assert_eq!(count, 0);
     // The counter counts.
     assert_eq!(allocations(|| drop(black_box(Box::new(1)))), 1);
 }

@@ -59,17 +59,33 @@ fn whole_texts() {
 
 #[test]
 fn what_svgtypes_does_not_refuse() {
-    let outside = "expected 'a number within the domain' not 'one outside it' at position 3";
-    assert_eq!(
-        told(&Length::from_str("  1e23").unwrap_err()),
-        is(outside, 10, 3)
-    );
+    for (text, found, number) in [
+        ("  1.", "one outside it", 10),
+        ("  9007199254740992", "one that is too large", 23),
+        ("  1e23", "one whose scale is out of range", 24),
+    ] {
+        let says = format!("expected 'a number within the domain' not '{found}' at position 3");
+        assert_eq!(
+            told(&Length::from_str(text).unwrap_err()),
+            is(&says, number, 3)
+        );
+    }
     let long = "expected 'a text of at most 4096 bytes' not 'a longer one' at position 0";
     let text = " ".repeat(4097);
     assert_eq!(told(&Color::from_str(&text).unwrap_err()), is(long, 1, 0));
     assert_eq!(told(&Paint::from_str(&text).unwrap_err()), is(long, 1, 0));
     assert_eq!(filter_error(&text).refusal().number, 1);
-    assert_eq!(filter_error("blur(1e23)").refusal().number, 10);
+    assert_eq!(filter_error("blur(1e23)").refusal().number, 24);
+}
+
+/// An error has no room for more: `read` alone tells a text that has ended from a wrong byte.
+#[test]
+fn errors_do_not_tell_22_from_9() {
+    let e = Color::from_str("rgb(1, ").unwrap_err();
+    assert_eq!(e, Error::InvalidNumber(8));
+    assert_eq!((e.refusal().number, e.refusal().position), (9, 8));
+    let refusal = Color::read("rgb(1, ").unwrap_err();
+    assert_eq!((refusal.number, refusal.position), (22, 8));
 }
 
 #[test]

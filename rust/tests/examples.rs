@@ -1,35 +1,35 @@
 //! Document 01's examples, "Proofs off the press".
 
-use std::str::FromStr;
-
 use homeludaf::{
     Angle, AngleUnit, Color, Error, FilterValue, FilterValueListParser,
     FilterValueListParserError as FilterError, Length, LengthListParser, LengthUnit, Paint,
     PaintFallback, Refusal,
 };
 
-fn color(text: &str) -> Result<[u8; 4], Refusal> {
-    match Color::from_str(text) {
-        Ok(c) => Ok([c.red, c.green, c.blue, c.alpha]),
-        Err(e) => Err(e.refusal()),
-    }
+/// A refusal's number and position.
+type Refused = (u32, usize);
+
+fn told(refusal: Refusal) -> Refused {
+    assert_eq!(refusal.place, 0, "a `&str` is UTF-8");
+    (refusal.number, refusal.position)
 }
 
-fn length(text: &str) -> Result<Length, Refusal> {
-    Length::from_str(text).map_err(|e| e.refusal())
+fn color(text: &str) -> Result<[u8; 4], Refused> {
+    let c = Color::read(text).map_err(told)?;
+    Ok([c.red, c.green, c.blue, c.alpha])
 }
 
-fn filter(text: &str) -> Option<Result<FilterValue<'_>, Refusal>> {
-    let first = FilterValueListParser::from(text).next()?;
-    Some(first.map_err(|e| e.refusal()))
+fn length(text: &str) -> Result<Length, Refused> {
+    Length::read(text).map_err(told)
 }
 
-fn no<T>(number: u32, position: usize) -> Result<T, Refusal> {
-    Err(Refusal {
-        number,
-        position,
-        place: 0,
-    })
+fn filter(text: &str) -> Option<Result<FilterValue<'_>, Refused>> {
+    let first = FilterValueListParser::read(text).next()?;
+    Some(first.map_err(told))
+}
+
+fn no<T>(number: u32, position: usize) -> Result<T, Refused> {
+    Err((number, position))
 }
 
 #[test]
@@ -51,13 +51,17 @@ fn colors() {
 
 #[test]
 fn a_wanted_byte_is_told() {
-    let e = Color::from_str("rgba(0,0,0,50%)").unwrap_err();
+    let text = "rgba(0,0,0,50%)";
+    let e = text.parse::<Color>().unwrap_err();
     assert_eq!(e, Error::InvalidChar(vec![b'%', b')'], 14));
+    let refusal = Color::read(text).unwrap_err();
+    assert_eq!(refusal, e.refusal());
+    assert_eq!((refusal.found, refusal.wanted), (b'%', b')'));
 }
 
 #[test]
 fn paints() {
-    let paint = |text| Paint::from_str(text).map_err(|e| e.refusal());
+    let paint = |text| Paint::read(text).map_err(told);
     assert_eq!(paint("url(#a) red)"), no(6, 4));
     assert_eq!(paint("red)"), no(5, 0));
     assert_eq!(
@@ -69,8 +73,8 @@ fn paints() {
     );
     assert_eq!(paint("\u{a0}inherit\u{2003}"), Ok(Paint::Inherit));
     // The number's position counts from what trimming leaves, and from the fallback.
-    assert_eq!(paint("  rgb(1e23,0,0)"), no(10, 5));
-    assert_eq!(paint("  url(#a) rgb(1e23,0,0)"), no(10, 5));
+    assert_eq!(paint("  rgb(1e23,0,0)"), no(24, 5));
+    assert_eq!(paint("  url(#a) rgb(1e23,0,0)"), no(24, 5));
 }
 
 #[test]
@@ -82,16 +86,34 @@ fn lengths_and_numbers() {
         length("9007199254740991"),
         Ok(Length::new_number(9007199254740991.0))
     );
-    assert_eq!(length("9007199254740992"), no(10, 1));
+    assert_eq!(length("9007199254740992"), no(23, 1));
     assert_eq!(length("1e22"), Ok(Length::new_number(1e22)));
-    assert_eq!(length("  1e23"), no(10, 3));
+    assert_eq!(length("  1e23"), no(24, 3));
     let minus_zero = length("-0").unwrap();
     assert!(minus_zero.number == 0.0 && minus_zero.number.is_sign_negative());
 }
 
+/// Document 02, P8: form before digits before scale; 22 is swallowed as 9 is, 23 and 24 are not.
+#[test]
+fn number_troubles() {
+    assert_eq!(length("x"), no(9, 1));
+    assert_eq!(length(""), no(22, 1));
+    assert_eq!(length("9007199254740992."), no(10, 1));
+    assert_eq!(length("9007199254740992e23"), no(23, 1));
+    assert_eq!(length("0e23"), no(24, 1));
+    assert_eq!(color("rgb(1,"), no(4, 0));
+    assert_eq!(color("rgb(1, "), no(22, 8));
+    assert_eq!(color("rgb("), no(22, 5));
+    assert_eq!(color("hsl("), no(4, 0));
+    let paint = |text| Paint::read(text).map_err(told);
+    assert_eq!(paint("rgb("), no(5, 0));
+    assert_eq!(paint("url(#a) rgb("), no(22, 5));
+    assert_eq!(paint("rgb(9007199254740992,0,0)"), no(23, 5));
+}
+
 #[test]
 fn angles() {
-    let angle = |text| Angle::from_str(text).unwrap();
+    let angle = |text| Angle::read(text).unwrap();
     assert_eq!(angle("0.5turn"), Angle::new(0.5, AngleUnit::Turns));
     assert_eq!(angle("0.5turn").to_degrees(), 180.0);
     assert_eq!(angle("100grad").to_degrees(), 90.0);
@@ -102,8 +124,8 @@ fn angles() {
 #[test]
 fn length_lists() {
     assert!(LengthListParser::from("").next().is_none());
-    let one_space = LengthListParser::from(" ").next().unwrap();
-    assert_eq!(one_space.unwrap_err().refusal().number, 9);
+    let one_space = LengthListParser::read(" ").next().unwrap();
+    assert_eq!(one_space.map_err(told), no(22, 2));
 }
 
 #[test]

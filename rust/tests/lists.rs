@@ -77,6 +77,29 @@ fn a_refusal_ends_the_list() {
     assert!(list.next().is_none());
 }
 
+/// What `read` of a list gives is the same list, and its refusal is whole.
+#[test]
+fn readers_give_the_parsers_values() {
+    let text = "blur(1) sepia(2) url(#a) blur(1e23) blur()";
+    let read: Vec<_> = FilterValueListParser::read(text).collect();
+    let parsed: Vec<_> = FilterValueListParser::from(text).collect();
+    assert_eq!(read.len(), parsed.len());
+    for (one, other) in read.iter().zip(&parsed) {
+        match (one, other) {
+            (Ok(one), Ok(other)) => assert_eq!(one, other),
+            (Err(one), Err(other)) => assert_eq!(*one, other.refusal()),
+            _ => panic!("{one:?} and {other:?}"),
+        }
+    }
+
+    let text = "1 2px, 3%,".repeat(40) + " ";
+    let read: Vec<_> = LengthListParser::read(&text).collect();
+    assert_eq!(read.len(), 121);
+    let parsed = LengthListParser::from(text.as_str()).map_while(Result::ok);
+    assert!(read.iter().copied().map_while(Result::ok).eq(parsed));
+    assert_eq!(read[120].unwrap_err().number, 22);
+}
+
 /// The boundary gives the place of such a list back as it came; the iterator must end all the same.
 #[test]
 fn a_list_that_is_too_long_is_refused_once() {
