@@ -54,13 +54,13 @@ fn keyword(text: &[u8]) -> u64
 }
 
 // A link's number, with no fallback.
-fn link_number(start: usize, len: usize) -> u64
-    requires { ⌜ start < places ⌝ }
+fn link_number(start: Place, len: usize) -> u64
+    requires { ⌜ start .0 < places ⌝ }
     requires { ⌜ len < places ⌝ }
-    ensures { λ r. ⌜ r ≡ 7 + (start * starts + len * lens) ⌝ }
+    ensures { λ r. ⌜ r ≡ 7 + (start .0 * starts + len * lens) ⌝ }
     ensures { λ r. ⌜ r < fallbacks ⌝ }
 {
-    7 + ((start as u64) * START + (len as u64) * LEN)
+    7 + ((start.0 as u64) * START + (len as u64) * LEN)
 }
 
 // The fallback after a link whose number is `link`.
@@ -95,58 +95,60 @@ fn with_rest(text: &[u8], at: Place, link: u64) -> u64
 }
 
 // A link in quotes: `url(` and the opening quote, `quote`, were seen.
-fn told_quoted(text: &[u8], by: usize, quote: u8) -> u64
+fn told_quoted(text: &[u8], from: Place, quote: u8) -> u64
     requires { ⌜ length (now text) ≤ 4096 ⌝ }
-    requires { ⌜ by ≤ 4096 ⌝ }
+    requires { ⌜ from .0 ≤ 4096 ⌝ }
     requires { ⌜ startsWith (ascii "url(") (now text) ≡ true ⌝ }
     requires { ⌜ quote ≡ getD (now text) 4 0 ⌝ }
     requires { ⌜ isQuote quote ≡ true ⌝ }
-    ensures { λ r. ⌜ orTold r (innerNumber by (now (text .entry))) ≡ innerNumber by (now (text .entry)) ⌝ }
+    ensures { λ r. ⌜ orTold r (innerNumber (from .0) (now (text .entry))) ≡ innerNumber (from .0) (now (text .entry)) ⌝ }
 {
     if bytes::is_curr_byte_eq(text, Place(5), b'#') {
+        let by = from.0;
         let end = bytes::skip_bare(text, Place(6));
         let q = end.0;
         if (6 < q)
             & (bytes::is_curr_byte_eq(text, end, quote)
                 & bytes::is_curr_byte_eq(text, Place(q + 1), b')'))
         {
-            return with_rest(text, Place(q + 2), link_number(by + 6, q - 6));
+            return with_rest(text, Place(q + 2), link_number(Place(by + 6), q - 6));
         }
     }
     UNTOLD
 }
 
-// A text that begins with a link; `by` bytes were trimmed before it.
-fn told_linked(text: &[u8], by: usize) -> u64
+// A text that begins with a link; `from` is where trimming left it.
+fn told_linked(text: &[u8], from: Place) -> u64
     requires { ⌜ length (now text) ≤ 4096 ⌝ }
-    requires { ⌜ by ≤ 4096 ⌝ }
-    ensures { λ r. ⌜ orTold r (innerNumber by (now (text .entry))) ≡ innerNumber by (now (text .entry)) ⌝ }
+    requires { ⌜ from .0 ≤ 4096 ⌝ }
+    ensures { λ r. ⌜ orTold r (innerNumber (from .0) (now (text .entry))) ≡ innerNumber (from .0) (now (text .entry)) ⌝ }
 {
     if bytes::begins(text, b"url(") {
         let b = bytes::byte_at(text, Place(4));
         if b == b'#' {
+            let by = from.0;
             let end = bytes::skip_bare(text, Place(5));
             let q = end.0;
             if (5 < q) & bytes::is_curr_byte_eq(text, end, b')') {
-                return with_rest(text, Place(q + 1), link_number(by + 5, q - 5));
+                return with_rest(text, Place(q + 1), link_number(Place(by + 5), q - 5));
             }
             return UNTOLD;
         }
         if (b == b'\'') | (b == b'"') {
-            return told_quoted(text, by, b);
+            return told_quoted(text, from, b);
         }
     }
     UNTOLD
 }
 
-// A text without white space at its ends.
-fn told_inner(text: &[u8], by: usize) -> u64
+// A text without white space at its ends, which trimming left from `from` on.
+fn told_inner(text: &[u8], from: Place) -> u64
     requires { ⌜ length (now text) ≤ 4096 ⌝ }
-    requires { ⌜ by ≤ 4096 ⌝ }
-    ensures { λ r. ⌜ orTold r (innerNumber by (now (text .entry))) ≡ innerNumber by (now (text .entry)) ⌝ }
+    requires { ⌜ from .0 ≤ 4096 ⌝ }
+    ensures { λ r. ⌜ orTold r (innerNumber (from .0) (now (text .entry))) ≡ innerNumber (from .0) (now (text .entry)) ⌝ }
 {
     if bytes::is_curr_byte_eq(text, Place(0), b'u') {
-        return told_linked(text, by);
+        return told_linked(text, from);
     }
     let k = keyword(text);
     if 0 < k {
@@ -171,20 +173,21 @@ fn uncolored(number: u64) -> u64
 }
 
 // Where the spaces at a text's end begin, from `from` on.
-fn space_end(text: &[u8], from: usize) -> usize
-    requires { ⌜ from ≤ length (now text) ⌝ }
-    ensures { λ r. ⌜ r ≤ length (now (text .entry)) ⌝ }
-    ensures { λ r. ⌜ scan isSpace (now (text .entry)) r ≡ length (now (text .entry)) ⌝ }
+fn space_end(text: &[u8], from: Place) -> Place
+    requires { ⌜ from .0 ≤ length (now text) ⌝ }
+    ensures { λ r. ⌜ r .0 ≤ length (now (text .entry)) ⌝ }
+    ensures { λ r. ⌜ scan isSpace (now (text .entry)) (r .0) ≡ length (now (text .entry)) ⌝ }
 {
+    let i = from.0;
     let mut e = text.len();
-    while from < e {
+    while i < e {
         if bytes::is_space(text[e - 1]) {
             e -= 1;
         } else {
-            return e;
+            return Place(e);
         }
     }
-    e
+    Place(e)
 }
 
 // A byte that is no part of white space: a visible ASCII character.
@@ -202,11 +205,12 @@ fn told(text: &[u8]) -> u64
         return TOO_LONG;
     }
     let start = bytes::skip_spaces(text, Place(0));
+    let end = space_end(text, start);
     let a = start.0;
-    let e = space_end(text, a);
+    let e = end.0;
     if a < e {
         if is_inked(text[a]) & is_inked(text[e - 1]) {
-            return told_inner(&text[a..e], a);
+            return told_inner(&text[a..e], start);
         }
     }
     UNTOLD
