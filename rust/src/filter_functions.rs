@@ -117,8 +117,9 @@ impl FilterValueListParserError {
         }
     }
 
-    /// The error of a refused record.
-    #[inline]
+    /// The error of a refused record. Out of line: what reads values is smaller without it.
+    #[cold]
+    #[inline(never)]
     fn of(record: &Record, text: &str) -> Self {
         let position = record.position();
         match record.number() {
