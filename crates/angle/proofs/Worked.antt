@@ -29,7 +29,7 @@ unfolding parseWhole parseAngle parseUnit startsWith parseNumber numberFrom fini
 one-degree = refl
 
 -- `1deg ` is 6 at 5
-trailing-space : fromStr (ascii "1deg ") ≡ O.Refused (record { number = 6; position = record { 0 = 5 }; place = place 0; found = 0; wanted = 0; part = record { start = place 0; len = 0 } })
+trailing-space : fromStr (ascii "1deg ") ≡ O.Refused (record { number = 6; position = record { 0 = 5 }; place = place 0; found = 0; wanted = 0; part = record { start = place 0; len = 0 }; from = place 4; to = place 5 })
 unfolding fromStr parseWhole parseAngle parseUnit startsWith parseNumber numberFrom finished scaled valueOf scaleOf exponentAt exponentFrom mantissaAt mantissaDot afterSign value scan run within bind powerOf powerBits mul div neg ofInt ofBits admitText admitUtf8 utf8Of walk charLen lenAt rowOf keeps refusalOf numberOf calcCharPosAt count firsts
 trailing-space = refl
 

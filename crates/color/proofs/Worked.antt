@@ -18,35 +18,35 @@ use Rattle.names.specs.Look.{namedOf, lookUp}
 use Rattle.color.specs.Hex.{fromHex, shortHex, hexPair, shortColor, longColor, parseHex}
 use Rattle.color.specs.Hsl.{hueToRgb, hslToRgb, hslColor}
 use Rattle.color.specs.Color.{rgba, afterNumber, closeBracket, parseAlpha, rgbMarked, rgbPlain, rgbRest, parseRgb, hslRest, parseHsl, isRgb, isHsl, namedColor, parseWord, parseColor, parseColorText}
+use Rattle.bytes.specs.Moves.{place}
 use Rattle.color.specs.Answer.{fromStr}
 use Rattle.color.specs.Paper.{paper}
 use Rattle.color.specs.declared.ColorAnswer.{ColorAnswer}
 use Rattle.color.specs.declared.ColorAnswer.the-variants as A
 
--- a refusal that tells its number and position
-abbrev refused : ℕ → ℕ → ColorAnswer
-refused n at = A.Refused (record { number = n; position = record { 0 = at }; place = record { 0 = 0 }; found = 0; wanted = 0; part = record { start = record { 0 = 0 }; len = 0 } })
+-- a refusal that tells its number, position and stretch; and of a 7 the byte found and the byte wanted
+abbrev refusedByte : ℕ → ℕ → ℕ → ℕ → ℕ → ℕ → ColorAnswer
+refusedByte n at found wanted from to =
+    A.Refused (record { number = n; position = record { 0 = at }; place = place 0; found = found; wanted = wanted; part = record { start = place 0; len = 0 }; from = place from; to = place to })
 
--- 7, which tells the byte found and the byte wanted too
-abbrev refusedByte : ℕ → ℕ → ℕ → ColorAnswer
-refusedByte at found wanted =
-    A.Refused (record { number = 7; position = record { 0 = at }; place = record { 0 = 0 }; found = found; wanted = wanted; part = record { start = record { 0 = 0 }; len = 0 } })
+abbrev refused : ℕ → ℕ → ℕ → ℕ → ColorAnswer
+refused n at from to = refusedByte n at 0 0 from to
 
 pub record Examples : Type 0 where
   pub four-digits : fromStr (ascii "#1234") ≡ A.Value (rgba 17 34 51 68)
-  pub five-digits : fromStr (ascii "#12345") ≡ refused 5 0
+  pub five-digits : fromStr (ascii "#12345") ≡ refused 5 0 6 6
   pub five-zeros : paper (fromStr (ascii "#12345")) .result ≡ rgba 0 0 0 0
   pub marked : fromStr (ascii "rgb(20%,50,20%)") ≡ A.Value (rgba 51 255 51 255)
-  pub unmarked : fromStr (ascii "rgb(10,20%,30)") ≡ refused 9 10
+  pub unmarked : fromStr (ascii "rgb(10,20%,30)") ≡ refused 9 10 9 9
   -- found `%` (37), wanted `)` (41)
-  pub marked-alpha : fromStr (ascii "rgba(0,0,0,50%)") ≡ refusedByte 14 37 41
+  pub marked-alpha : fromStr (ascii "rgba(0,0,0,50%)") ≡ refusedByte 7 14 37 41 13 14
   pub half-alpha : fromStr (ascii "rgba(0,0,0,0.5)") ≡ A.Value (rgba 0 0 0 128)
   pub last-comma : fromStr (ascii "rgb(1,2,3,)") ≡ A.Value (rgba 1 2 3 255)
   pub white : fromStr (ascii "hsl(120,100,50)") ≡ A.Value (rgba 255 255 255 255)
   -- the hue rounds to 6.0
   pub near-turn : fromStr (ascii "hsl(359.99999,100%,50%)") ≡ A.Value (rgba 255 0 0 255)
-  pub empty : fromStr (ascii "") ≡ refused 4 0
-  pub bracket : fromStr (ascii "red)") ≡ refused 6 4
+  pub empty : fromStr (ascii "") ≡ refused 4 0 0 0
+  pub bracket : fromStr (ascii "red)") ≡ refused 6 4 3 4
 
 pub examples : Examples
 unfolding fromStr admitText admitUtf8 utf8Of walk charLen lenAt rowOf keeps within refusalOf numberOf calcCharPosAt count firsts parseColorText parseColor parseHex longColor shortColor hexPair shortHex fromHex parseWord part same lowerOf isRgb isHsl namedColor namedOf lookUp keywords parseRgb parseHsl hslRest rgbRest rgbMarked rgbPlain afterNumber parseAlpha closeBracket consumeByte hslColor hslToRgb hueToRgb narrowed channelOf parseNumber parseNumberOrPercent parseListNumber parseListNumberOrPercent afterItem parseListSeparator numberFrom finished scaled valueOf scaleOf exponentAt exponentFrom mantissaAt mantissaDot afterSign value scan run bind isCurrByteEq powerOf powerBits mul div add sub rem neg lt le ofInt ofBits

@@ -1,5 +1,5 @@
 -- The number of a whole text's answer, by what is read at its start.
-use Prim.Native.Nat.{ℕ, _+_, _/_, _%_, _≤_, _<_}
+use Prim.Native.Nat.{ℕ, _+_, _*_, _/_, _%_, _≤_, _<_}
 use mathlib.Core.Bool.{Bool, true, false, _||_, true≢false}
 use mathlib.Core.List.{List, [], _∷_}
 use mathlib.Core.Path.{_≡_, refl, sym, ap, _∙_}
@@ -7,6 +7,8 @@ use native.Mathlib.Omega.{arith}
 use borrow.Author.Tests.{le-ltb, lt-leb, ltb-false, eq-eqb}
 use lib.Dec.{eqb, ltb}
 use lib.ListN.{length}
+use mir.Syntax.{w64}
+use mir.Val.{Fits}
 use Rattle.bytes.specs.Moves.{place}
 use Rattle.bytes.specs.Bytes.{isSpace}
 use Rattle.stream.specs.Faults.{unexpectedEnd, invalidValue}
@@ -23,7 +25,7 @@ use Rattle.utf8.specs.declared.Utf8.the-variants.{WellFormed}
 use Rattle.stream.proofs.Edges.{admit-good}
 use Rattle.utf8.proofs.Walks.{ascii-utf8}
 use Rattle.bytes.proofs.Parts.{rest-part}
-use Rattle.bytes.proofs.Scans.{scan-start, scan-end}
+use Rattle.bytes.proofs.Scans.{scan-start, scan-end, scan-inside}
 use Rattle.color.specs.Answer.{fromStr}
 use Rattle.color.specs.Color.{parseColor, parseColorText}
 use Rattle.color.specs.declared.Color.{Color}
@@ -31,12 +33,12 @@ use Rattle.color.specs.declared.ColorAnswer.{ColorAnswer}
 use Rattle.color.specs.declared.ColorAnswer.the-variants as A
 use Rattle.color.specs.declared.ColorRead.the-variants as C
 use Rattle.color.proofs.Values.{color-known}
-use Rattle.packed.specs.Numbers.{places, noColor, colorNumber, numberColor, colorOr}
+use Rattle.packed.specs.Numbers.{places, noColor, colorNumber, numberColor, stretchStart, refusalNumber, colorOr}
 use Rattle.packed.proofs.Decoding.{color-told}
 use Rattle.fast_color_functions.specs.Told.{toldColor}
 use Rattle.fast_color_functions.proofs.Numbers.{anew}
 use Rattle.fast_color_functions.proofs.Told.{color-read}
-use Rattle.fast_color.proofs.Bare.{color-small}
+use Rattle.fast_color.proofs.Empty.{color-small, color-near}
 use Rattle.fast_color.specs.Told.{untold, Tells}
 
 -- what a test of two says
@@ -57,13 +59,9 @@ tells-anew s h = rw (rest-part s 0) at h
 
 -- a text that may be read
 module _ (s : List ℕ) (admit : admitText s ≡ M.Admitted) where
-  pub text-refused : (f : Fault) → parseColor s 0 ≡ C.Refused f → Tells (noColor + numberOf (f .trouble)) (colorOr (fromStr s))
-  unfolding fromStr parseColorText colorOr refusalOf
-  text-refused f p = tells-all (simp (admit, p))
-
-  pub text-invalid : (n : ℕ) → parseColor s 0 ≡ C.Refused (invalidValue n) → Tells (noColor + 5) (colorOr (fromStr s))
-  unfolding numberOf
-  text-invalid n p = text-refused (invalidValue n) p
+  pub text-invalid : (n : ℕ) → parseColor s 0 ≡ C.Refused (invalidValue n) → Tells (noColor + 5 * places + n) (colorOr (fromStr s))
+  unfolding fromStr parseColorText colorOr stretchStart refusalOf numberOf
+  text-invalid n p = tells-all (simp (admit, p) (omega arith))
 
   -- and ends with its colour
   pub text-color : {c : Color} {v : ℕ} → parseColor s 0 ≡ C.Value c (place (length s)) → v ≡ colorNumber c → Tells v (colorOr (fromStr s))
@@ -73,17 +71,16 @@ module _ (s : List ℕ) (admit : admitText s ≡ M.Admitted) where
       let l : ltb (length s) (length s) ≡ false = le-ltb (length s) (length s) (omega arith) in
       tells-all (simp (admit, p, e, l) q)
 
-pub text-empty : (s : List ℕ) → length s ≡ 0 → Tells (noColor + 4) (colorOr (fromStr s))
-unfolding parseColor scan run bind numberOf isAscii
-text-empty [] h = text-refused [] (sym (admit-good [] (omega arith) (ascii-utf8 [] refl refl) refl)) (unexpectedEnd []) refl
-text-empty (x ∷ xs) h = absurd (omega arith)
-
 -- a text over the limit is refused before it is read
-pub text-long : (s : List ℕ) → 4096 < length s → Tells (noColor + 1) (colorOr (fromStr s))
-unfolding fromStr admitText colorOr
+pub text-long : (s : List ℕ) → 4096 < length s → Tells (noColor + places) (colorOr (fromStr s))
+unfolding fromStr admitText colorOr stretchStart
 text-long s h = tells-all (simp (lt-leb (length s) 4096 h))
 
-pub ruleset telling = (tells-anew, text-empty, text-long)
+-- e is where a run ended, at which reading stopped
+pub stop-fits : (p : ℕ → Bool) (s : List ℕ) (i e : ℕ) → e ≡ scan p s i → i ≤ length s → length s ≤ 4096 → Fits w64 (noColor + 5 * places + e)
+stop-fits p s i e q h l = record { fits = omega (arith, scan-inside p s i e q h) }
+
+pub ruleset telling = (tells-anew, text-long)
 
 -- a colour that is told at the start, and ends the text: r is what was told
 pub function-ends : (s : List ℕ) {r : ℕ} {u : Utf8} → r ≡ toldColor (parseColor s 0) → length s ≤ 4096 → (eqb r 0 || ltb (r % places) (length s)) ≡ false → u ≡ utf8Of s → u ≡ WellFormed
@@ -109,14 +106,24 @@ module _ (s : List ℕ) {x : ColorAnswer} (q : x ≡ fromStr s) where
   unfolding colorOr
   value-read e h = rw (← q, e) h
 
-  pub value-refused : {e : Refusal} → x ≡ A.Refused e → noColor + e .number ≡ colorOr (fromStr s)
+  pub value-refused : {e : Refusal} {r : ℕ} → x ≡ A.Refused e → r ≡ refusalNumber e → noColor + r ≡ colorOr (fromStr s)
   unfolding colorOr
-  value-refused e = rw (← q, e) refl
+  value-refused e h = rw (← q, e, h) refl
 
-  pub value-small : {e : Refusal} → x ≡ A.Refused e → noColor + e .number < untold
-  value-small {e} h = omega (arith, color-small s e (sym q ∙ h))
+  -- what its number asks of a refusal
+  pub refused-small : {e : Refusal} → x ≡ A.Refused e → e .number < 32
+  refused-small {e} h = color-small s e (sym q ∙ h)
+
+  pub refused-near : {e : Refusal} → x ≡ A.Refused e → e .from .0 < places
+  refused-near {e} h = color-near s e (sym q ∙ h)
+
+pub value-small : {r : ℕ} → r < 32 * places → noColor + r < untold
+value-small h = omega arith
+
+pub value-fits : {r : ℕ} → r < 32 * places → Fits w64 (noColor + r)
+value-fits h = record { fits = omega arith }
 
 pub value-below : {v : ℕ} → v < noColor → v < untold
 value-below h = omega arith
 
-pub ruleset valued = (value-told, value-read, value-refused, value-small, value-below, answer-told)
+pub ruleset valued = (value-told, value-read, value-refused, refused-small, refused-near, value-small, value-fits, value-below, answer-told)

@@ -1,5 +1,5 @@
 -- `#` and digits: as a whole text, and at a place.
-use Prim.Native.Nat.{ℕ, zero, suc, _+_, _-_, _≤_, _<_}
+use Prim.Native.Nat.{ℕ, zero, suc, _+_, _*_, _-_, _≤_, _<_}
 use mathlib.Core.Bool.{Bool, true, false, _&&_, _||_, not, cond, true≢false}
 use mathlib.Core.List.{List}
 use mathlib.Core.Logic.{⊎-elim}
@@ -27,7 +27,7 @@ use Rattle.color.specs.Color.{parseColor}
 use Rattle.color.specs.Hex.{shortHex, hexPair, shortColor, longColor, parseHex}
 use Rattle.color.specs.declared.Color.{Color}
 use Rattle.color.specs.declared.ColorRead.the-variants as C
-use Rattle.packed.specs.Numbers.{noColor, colorNumber, numberColor, colorOr}
+use Rattle.packed.specs.Numbers.{noColor, places, colorNumber, numberColor, colorOr}
 use Rattle.fast_color_functions.proofs.Numbers.{anew}
 use Rattle.fast_color.specs.Digits.{ifDigits, sixDigits, threeDigits, eightDigits, fourDigits, digitsAlone}
 use Rattle.fast_color.specs.Told.{Tells}
@@ -89,7 +89,7 @@ module _ (s : List ℕ) (some : 0 < length s) (hash : getD s 0 0 ≡ 35) where
       (λ j. let z : v ≡ noColor = simp (f, g, i, j) at q in absurd (omega arith)))))
 
   -- a run of another number that is the whole text is refused: n is where it ends
-  pub hex-refused : (n : ℕ) → length s ≤ 4096 → n ≡ scan isHexDigit s 1 → (ltb n (length s) || (eqb n 4 || (eqb n 5 || (eqb n 7 || eqb n 9)))) ≡ false → Tells (noColor + 5) (colorOr (fromStr s))
+  pub hex-refused : (n : ℕ) → length s ≤ 4096 → n ≡ scan isHexDigit s 1 → (ltb n (length s) || (eqb n 4 || (eqb n 5 || (eqb n 7 || eqb n 9)))) ≡ false → Tells (noColor + 5 * places + n) (colorOr (fromStr s))
   unfolding parseHex bind
   hex-refused n small q e =
       let all : scan isHexDigit s 1 ≡ length s = omega (arith, ltb-false n (length s) (or-first (ltb n (length s)) _ e), scan-le isHexDigit s 1 (omega arith)) in

@@ -1,4 +1,4 @@
-pub mod Bare
+pub mod Empty
 pub mod Values
 pub mod Runs
 pub mod Alpha

@@ -1,5 +1,5 @@
 -- A word that is a name, or none: as a whole text, and at a place.
-use Prim.Native.Nat.{ℕ, suc, _+_, _-_, _≤_, _<_}
+use Prim.Native.Nat.{ℕ, suc, _+_, _*_, _-_, _≤_, _<_}
 use mathlib.Core.Bool.{Bool, true, false, _&&_, _||_, not}
 use mathlib.Core.List.{List, [], _∷_}
 use mathlib.Core.Path.{_≡_, refl, sym, ap, _∙_}
@@ -34,7 +34,7 @@ use Rattle.color.specs.Answer.{fromStr}
 use Rattle.color.specs.Color.{rgba, isRgb, isHsl, namedRead, namedColor, parseWord, parseColor}
 use Rattle.color.specs.declared.Color.{Color}
 use Rattle.color.specs.declared.ColorRead.the-variants as C
-use Rattle.packed.specs.Numbers.{noColor, colorNumber, numberColor, colorOr}
+use Rattle.packed.specs.Numbers.{noColor, places, colorNumber, numberColor, colorOr}
 use Rattle.fast_names.specs.Named.{namedNumber}
 use Rattle.fast_names.proofs.Bounds.{named-unnamed}
 use Rattle.fast_color_functions.proofs.Numbers.{anew}
@@ -175,18 +175,19 @@ module _ (s : List ℕ) {v : ℕ} (q : v ≡ namedNumber (namedOf (anew s))) whe
       text-color s (word-admit s all (n .small)) (word-read s all (n .free) ∙ n .read (length s)) (here ∙ n .number)
 
   -- another word, that begins no function: e is where it ends, t and u are what the tests for one answered
-  pub name-none : {e : ℕ} {t u : Bool} → noColor ≤ v → 0 < length s → length s ≤ 4096 → e ≡ scan isAsciiIdent s 0 → t ≡ isRgb s → u ≡ isHsl s → (ltb e (length s) || (t || u)) ≡ false → Tells (noColor + 5) (colorOr (fromStr s))
+  pub name-none : {e : ℕ} {t u : Bool} → noColor ≤ v → 0 < length s → length s ≤ 4096 → e ≡ scan isAsciiIdent s 0 → t ≡ isRgb s → u ≡ isHsl s → (ltb e (length s) || (t || u)) ≡ false → Tells (noColor + 5 * places + e) (colorOr (fromStr s))
   name-none {e} {t} {u} h some small p a b k =
       let m = or-second (ltb e (length s)) _ k in
       let all : scan isAsciiIdent s 0 ≡ length s = omega (arith, ltb-false e (length s) (or-first (ltb e (length s)) _ k), scan-le isAsciiIdent s 0 (omega arith)) in
       let f : Free s = record { some = some; rgb = sym a ∙ or-first t u m; hsl = sym b ∙ or-second t u m } in
       let n : namedOf s ≡ N.Unknown = named-unnamed s (omega (arith, here)) in
-      text-invalid s (word-admit s all small) (length s) (word-read s all f ∙ ap (λ m. namedRead m (length s)) n)
+      let l : e ≡ length s = p ∙ all in
+      rw l (text-invalid s (word-admit s all small) (length s) (word-read s all f ∙ ap (λ m. namedRead m (length s)) n))
 
 -- a word that names no colour, with whatever follows it: e is where it ends
 pub unnamed-told : (s : List ℕ) {e v : ℕ} {t u : Bool} {w : Utf8} → 0 < length s → length s ≤ 4096 → 35 < getD s 0 0 → e ≡ scan isAsciiIdent s 0
     → t ≡ isRgb (take (e - 0) (drop 0 s)) → u ≡ isHsl (take (e - 0) (drop 0 s)) → (t || u) ≡ false → v ≡ namedNumber (namedOf (take (e - 0) (drop 0 s))) → noColor ≤ v
-    → w ≡ utf8Of s → w ≡ WellFormed → Tells (noColor + 5) (colorOr (fromStr s))
+    → w ≡ utf8Of s → w ≡ WellFormed → Tells (noColor + 5 * places + e) (colorOr (fromStr s))
 unfolding parseWord namedColor part bind
 unnamed-told s {e} {v} {t} {u} some small first q a b k n h x y =
     let r : isRgb (take (e - 0) (drop 0 s)) ≡ false = sym a ∙ or-first t u k in

@@ -1,16 +1,14 @@
 -- The laws of a call that answers by one number: no value's is 0.
-use Prim.Native.Nat.{ℕ, _+_, _-_, _<_}
-use mathlib.Core.Bool.{true, _||_}
+use Prim.Native.Nat.{ℕ, _+_, _-_, _*_, _%_, _≤_, _<_}
+use mathlib.Core.Bool.{true, _&&_}
 use mathlib.Core.List.{List, []}
 use mathlib.Core.Path.{_≡_, refl, ap, _∙_}
 use native.Mathlib.Omega.{arith}
-use borrow.Author.Tests.{eqb-true, ne-eqb}
-use lib.Dec.{eqb}
+use borrow.Author.Tests.{leb-true, ltb-true, ne-eqb}
+use lib.Dec.{leb, ltb}
 use lib.ListN.{length, take, drop}
-use mir.Syntax.{w8}
-use mir.Val.{Fits}
-use Rattle.bytes.proofs.Ranges.{either}
-use Rattle.stream.specs.Refusals.{bareRefusal}
+use Rattle.bytes.proofs.Ranges.{and-first, and-second}
+use Rattle.stream.specs.Refusals.{emptyRefusal}
 use Rattle.stream.specs.declared.Refusal.{Refusal}
 use Rattle.color.specs.Answer.{fromStr}
 use Rattle.color.specs.declared.Color.{Color}
@@ -18,13 +16,13 @@ use Rattle.color.specs.declared.ColorAnswer.{ColorAnswer}
 use Rattle.color.specs.declared.ColorAnswer.the-variants as C
 use Rattle.paint.specs.declared.Paint.{Paint}
 use Rattle.paint.specs.declared.Paint.the-variants as P
-use Rattle.packed.specs.Numbers.{noColor, numberColor, paintNumber, colorAnswerNumber, colorOr}
+use Rattle.packed.specs.Numbers.{noColor, places, numberColor, paintNumber, colorAnswerNumber, colorOr}
 use Rattle.records.specs.Records.{row, colorRecord, recordFor}
 use Rattle.records.proofs.Wholes as records
 use Rattle.fast_color.specs.Told.{Tells}
-use Rattle.packed.proofs.Decoding.{color-refused}
+use Rattle.packed.proofs.Decoding.{color-refused, start-told, start-near}
 use Rattle.fast_color.proofs.Answers.{value-told, answer-told}
-use Rattle.fast_color.proofs.Bare.{color-bare}
+use Rattle.fast_color.proofs.Empty.{color-near, color-empty}
 
 positive : (v : Paint) → 0 < paintNumber v
 unfolding paintNumber
@@ -55,27 +53,23 @@ pub color-at-once : (s : List ℕ) (v : ℕ) {o : List ℕ} {n : ℕ} → Tells 
     → (n ≡ colorAnswerNumber (fromStr s)) × (o ≡ recordFor n (colorRecord (fromStr s)) o)
 color-at-once s v t l h = color-told (answer-told s v t l refl) refl h
 
--- a refusal by 4 or 5, which tells nothing else
-pub told-bounds : (v : ℕ) → (eqb v (noColor + 4) || eqb v (noColor + 5)) ≡ true → (noColor + 3 < v) × (v < noColor + 6)
-told-bounds v h =
-    either (eqb v (noColor + 4)) (λ t. let e = eqb-true v (noColor + 4) t in (omega arith, omega arith))
-    (λ t. let e = eqb-true v (noColor + 5) (simp t at h) in (omega arith, omega arith))
-
-pub told-byte : (v : ℕ) → (eqb v (noColor + 4) || eqb v (noColor + 5)) ≡ true → Fits w8 (v - noColor)
-told-byte v h = let b = told-bounds v h in record { fits = omega arith }
-
-module _ (s : List ℕ) (v : ℕ) (t : Tells v (colorOr (fromStr (take (length s - 0) (drop 0 s))))) (h : (eqb v (noColor + 4) || eqb v (noColor + 5)) ≡ true) where
-  bare-told : fromStr s ≡ C.Refused (bareRefusal (v - noColor))
-  bare-told =
-      let b = told-bounds v h in
+-- a refusal by 5, which tells nothing else but where reading stopped
+module _ (s : List ℕ) (v : ℕ) (t : Tells v (colorOr (fromStr (take (length s - 0) (drop 0 s))))) (h : (leb (noColor + 5 * places) v && ltb v (noColor + 6 * places)) ≡ true) where
+  empty-told : fromStr s ≡ C.Refused (emptyRefusal 5 (v % places))
+  empty-told =
+      let low : noColor + 5 * places ≤ v = leb-true (noColor + 5 * places) v (and-first _ _ h) in
+      let high : v < noColor + 6 * places = ltb-true v (noColor + 6 * places) (and-second (leb (noColor + 5 * places) v) _ h) in
       let r = color-refused s v (value-told s v t (omega arith)) (omega arith) in
-      r .1 .0 ∙ ap C.Refused (color-bare s (r .0) (r .1 .0) (v - noColor) (omega (arith, r .1 .1)) (omega arith) (omega arith))
+      let near = start-near (r .0) (color-near s (r .0) (r .1 .0)) in
+      let five : r .0 .number ≡ 5 = omega (arith, r .1 .1, near) in
+      let at : r .0 .from .0 ≡ v % places = omega (arith, r .1 .1, near, start-told (r .0) (omega arith)) in
+      r .1 .0 ∙ ap C.Refused (color-empty s (r .0) (r .1 .0) five ∙ ap (emptyRefusal 5) at)
 
-  pub bare-number : 0 ≡ colorAnswerNumber (fromStr s)
+  pub empty-number : 0 ≡ colorAnswerNumber (fromStr s)
   unfolding colorAnswerNumber
-  bare-number = rw bare-told refl
+  empty-number = rw empty-told refl
 
-  pub bare-row : {o : List ℕ} {e : Refusal} → e ≡ bareRefusal (v - noColor) → o ≡ row e 0 0 [] → o ≡ colorRecord (fromStr s)
-  bare-row d w = records.color-refused bare-told (rw d at w)
+  pub empty-row : {o : List ℕ} {e : Refusal} → e ≡ emptyRefusal 5 (v % places) → o ≡ row e 0 0 [] → o ≡ colorRecord (fromStr s)
+  empty-row d w = records.color-refused empty-told (rw d at w)
 
-pub ruleset bares = (told-byte, bare-number, bare-row)
+pub ruleset empties = (empty-number, empty-row)

@@ -19,17 +19,17 @@ mod numbered;
 
 pub use numbered::number;
 
-// The answer where nothing is told. Below it a refusal is told, by NO_COLOR and its number.
-pub const UNTOLD: u64 = 0x1_0000_0020;
+// The answer where nothing is told. Below it a refusal is told, by NO_COLOR, its number and where its stretch starts.
+const UNTOLD: u64 = 0x1_0004_0000;
 
-// A text over the limit, one that has ended, and one that is no colour.
-const TOO_LONG: u64 = 0x1_0000_0001;
+// A text over the limit; and the first number of a text that is no colour, with the first after all of these.
+const TOO_LONG: u64 = 0x1_0000_2000;
 
-pub const ENDED: u64 = 0x1_0000_0004;
+const INVALID: u64 = 0x1_0000_a000;
 
-pub const INVALID: u64 = 0x1_0000_0005;
+const PAST_INVALID: u64 = 0x1_0000_c000;
 
-// A colour as a whole text, as its number; for a refused text, NO_COLOR and the refusal's number.
+// A colour as a whole text, as its number; for a refused text, NO_COLOR, the refusal's number and where its stretch starts.
 pub fn value(text: &[u8]) -> u64
     ensures { λ r. ⌜ r ≡ colorOr (fromStr (now (text .entry))) ⌝ }
     ensures { λ r. ⌜ r < untold ⌝ }
@@ -40,7 +40,7 @@ pub fn value(text: &[u8]) -> u64
     }
     match color::from_str(text) {
         ColorAnswer::Value(c) => packed::color_number(c),
-        ColorAnswer::Refused(e) => NO_COLOR + (e.number as u64),
+        ColorAnswer::Refused(e) => NO_COLOR + packed::refusal_number(e),
     }
 }
 
@@ -62,7 +62,7 @@ fn told_text(text: &[u8]) -> u64
 {
     let len = text.len();
     if len == 0 {
-        return ENDED;
+        return UNTOLD;
     }
     if 4096 < len {
         return TOO_LONG;
@@ -102,7 +102,7 @@ fn told_hex(text: &[u8]) -> u64
     if (n < text.len()) | ((n == 4) | ((n == 5) | ((n == 7) | (n == 9)))) {
         return UNTOLD;
     }
-    INVALID
+    INVALID + n as u64
 }
 
 // A name; or letters, digits, `-` and `_` alone that name no colour.
@@ -116,10 +116,11 @@ fn told_word(text: &[u8]) -> u64
         return v;
     }
     let end = bytes::consume_ascii_ident(text, Place(0));
-    if (end.0 < text.len()) | (color::is_rgb(text) | color::is_hsl(text)) {
+    let e = end.0;
+    if (e < text.len()) | (color::is_rgb(text) | color::is_hsl(text)) {
         return UNTOLD;
     }
-    INVALID
+    INVALID + e as u64
 }
 
 // A word that names no colour, and whatever follows it. None of this begins with a space or with `#`.
@@ -141,7 +142,7 @@ fn told_unnamed(text: &[u8]) -> u64
     }
     match utf8::utf8_test(text) {
         Utf8::IllFormed(_) => UNTOLD,
-        Utf8::WellFormed => INVALID,
+        Utf8::WellFormed => INVALID + e as u64,
     }
 }
 

@@ -3,11 +3,13 @@ ghost use mathlib.Core.Path.{_≡_};
 ghost use Rattle.color.specs.Answer.{fromStr};
 ghost use Rattle.packed.specs.Numbers.{colorAnswerNumber};
 ghost use Rattle.records.specs.Records.{colorRecord, recordFor};
-use crate::ENDED;
 use crate::INVALID;
+use crate::PAST_INVALID;
 use crate::told_text;
+use bytes::Place;
 use color::ColorAnswer;
 use packed::NO_COLOR;
+use packed::PLACES;
 use paint::Paint;
 
 pub fn number(text: &[u8], answer: &mut [u64; 24]) -> u64
@@ -18,8 +20,9 @@ pub fn number(text: &[u8], answer: &mut [u64; 24]) -> u64
     if v < NO_COLOR {
         return packed::painted(v);
     }
-    if (v == ENDED) | (v == INVALID) {
-        records::refused(answer, stream::bare_refusal((v - NO_COLOR) as u8));
+    if (INVALID <= v) & (v < PAST_INVALID) {
+        let at = Place((v % PLACES) as usize);
+        records::refused(answer, stream::empty_refusal(5, at));
         return 0;
     }
     match color::from_str(text) {

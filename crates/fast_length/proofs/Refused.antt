@@ -6,34 +6,26 @@ use mathlib.Core.Path.{_≡_, refl, sym, _∙_}
 use borrow.Author.Tests.{le-leb, lt-leb}
 use lib.ListN.{length, getD}
 use Rattle.bytes.specs.Bytes.{isSpace}
-use Rattle.stream.specs.Faults.{unexpectedData}
 use Rattle.bytes.specs.Flow.{bind}
-use Rattle.utf8.specs.Characters.{calcCharPosAt}
-use Rattle.stream.specs.Refusals.{bareRefusal, numberOf, refusalOf}
+use Rattle.stream.specs.Refusals.{bareRefusal, numberOf, refusalAt, refusalOf}
 use Rattle.bytes.specs.Scan.{scan}
 use Rattle.bytes.specs.declared.Place.{Place}
 use Rattle.stream.specs.declared.Fault.{Fault}
-use Rattle.utf8.specs.declared.Position.{Position}
 use Rattle.stream.specs.declared.Refusal.{Refusal}
 use Rattle.numbers.specs.Number.{startsNumber, parseNumber}
 use Rattle.numbers.specs.declared.Number.{Number}
 use Rattle.numbers.specs.declared.NumberRead.{NumberRead}
 use Rattle.numbers.specs.declared.NumberRead.the-variants as N
-use Rattle.fast_length.specs.Inner.{refusalAt, numberRefusal, noNumberAt}
+use Rattle.fast_length.specs.Inner.{numberRefusal, noNumberAt}
 
--- a number's refusal, and that of bytes that are left
+-- a number's refusal
 pub number-refusal : (s : List ℕ) (at : ℕ) (e : Fault) → parseNumber s at ≡ N.Refused e → noNumberAt s at ≡ refusalOf s e
 unfolding noNumberAt numberRefusal
 number-refusal s at e q = rw q
 
-pub data-refusal : (s : List ℕ) (i : ℕ) → refusalAt s 6 i ≡ refusalOf s (unexpectedData s i)
-unfolding refusalOf numberOf
-data-refusal s i = refl
-
--- r is the bare refusal, p the position
-pub positioned : (s : List ℕ) (n i : ℕ) {r : Refusal} {p : Position} → r ≡ bareRefusal n → p .0 ≡ calcCharPosAt s i
-    → _≡_ {A = Refusal} (record { number = r .number; position = p; place = r .place; found = r .found; wanted = r .wanted; part = r .part }) (refusalAt s n i)
-positioned s n i b w = rw (b, ← w)
+-- that of a fault that a call made
+pub left-refused : (s : List ℕ) {e f : Fault} {r : Refusal} → r ≡ refusalOf s e → e ≡ f → r ≡ refusalOf s f
+left-refused s h k = rw (← k) h
 
 -- where no number starts: i is the place after spaces, t whether one starts with the byte there
 module _ (s : List ℕ) (at : ℕ) {i : ℕ} {r : Refusal} (z : i ≡ scan isSpace s at) where

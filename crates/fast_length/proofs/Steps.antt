@@ -11,9 +11,9 @@ use lib.ListN.{length}
 use lib.Seq.{paste}
 use Rattle.bytes.specs.Bytes.{isSpace}
 use Rattle.bytes.specs.Moves.{place}
-use Rattle.stream.specs.Faults.{parseListSeparator}
+use Rattle.stream.specs.Faults.{unexpectedData, parseListSeparator}
 use Rattle.bytes.specs.Flow.{bind}
-use Rattle.stream.specs.Refusals.{bareRefusal, admitText, admitPlace}
+use Rattle.stream.specs.Refusals.{bareRefusal, refusalOf, admitText, admitPlace}
 use Rattle.bytes.specs.Scan.{scan}
 use Rattle.stream.specs.declared.Admission.{Admission}
 use Rattle.stream.specs.declared.Admission.the-variants as A
@@ -28,10 +28,10 @@ use Rattle.length.specs.declared.LengthStep.{LengthStep}
 use Rattle.length.specs.declared.LengthStep.the-variants as S
 use Rattle.records.specs.Records.{lengthStepRecord}
 use Rattle.fast_numbers.proofs.Plain.{plain-text}
-use Rattle.fast_length.specs.Inner.{refusalAt, noNumberAt}
+use Rattle.fast_length.specs.Inner.{noNumberAt}
 use Rattle.fast_length.specs.Told.{toldLength}
 use Rattle.fast_length.specs.declared.ToldLength.{ToldLength}
-use Rattle.fast_length.proofs.Refused.{number-refusal, data-refusal}
+use Rattle.fast_length.proofs.Refused.{number-refusal}
 use Rattle.fast_length.proofs.Told.{told-length, told-no-length, length-plain}
 
 pub whole-long : (s : List ℕ) {e : Refusal} → 4096 < length s → e ≡ bareRefusal 1 → O.Refused e ≡ fromStr s
@@ -51,12 +51,12 @@ module _ (s : List ℕ) (r : ToldLength) (q : r ≡ toldLength (parseLength s 0)
 
   module _ {a : Admission} (p : a ≡ admitText s) (ok : a ≡ A.Admitted) {e : Refusal} where
     -- bytes are left after it
-    pub whole-left : (ltb 0 (r .next .0) && leb (length s) (r .next .0)) ≡ false → 0 < r .next .0 → e ≡ refusalAt s 6 (r .next .0) → O.Refused e ≡ fromStr s
+    pub whole-left : (ltb 0 (r .next .0) && leb (length s) (r .next .0)) ≡ false → 0 < r .next .0 → e ≡ refusalOf s (unexpectedData s (r .next .0)) → O.Refused e ≡ fromStr s
     unfolding fromStr parseWhole
     whole-left t some h =
         let f : leb (length s) (r .next .0) ≡ false = simp (lt-ltb 0 (r .next .0) some) at t in
         let less : r .next .0 < length s = leb-false (length s) (r .next .0) f in
-        simp (← p, ok, told-length s 0 r q some .is, lt-ltb (r .next .0) (length s) less, h, data-refusal)
+        simp (← p, ok, told-length s 0 r q some .is, lt-ltb (r .next .0) (length s) less, h)
 
     -- there is none
     pub whole-none : r .next .0 ≤ 0 → e ≡ noNumberAt s 0 → O.Refused e ≡ fromStr s

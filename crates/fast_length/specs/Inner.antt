@@ -3,7 +3,6 @@ use Prim.Native.Nat.{ℕ, _+_}
 use mathlib.Core.Bool.{cond}
 use mathlib.Core.List.{List}
 use lib.Dec.{eqb}
-use Rattle.utf8.specs.Characters.{calcCharPosAt}
 use Rattle.bytes.specs.Moves.{place}
 use Rattle.stream.specs.Refusals.{bareRefusal, refusalOf}
 use Rattle.stream.specs.declared.Refusal.{Refusal}
@@ -20,18 +19,6 @@ unfoldable pub withUnit : List ℕ → ToldNumber → ToldLength
 withUnit s n =
     let u = unitAt s (n .end .0) in
     cond (eqb (n .end .0) 0) noLength (record { number = n .value; unit = u; next = place (n .end .0 + unitWidth u) })
-
--- a refusal that tells its number and the position of a place
-abbrev pub refusalAt : List ℕ → ℕ → ℕ → Refusal
-refusalAt s n i =
-    record {
-      number = n;
-      position = record { 0 = calcCharPosAt s i };
-      place = bareRefusal n .place;
-      found = bareRefusal n .found;
-      wanted = bareRefusal n .wanted;
-      part = bareRefusal n .part;
-    }
 
 -- the refusal where no number is read; that of one that is read is never asked for
 unfoldable pub numberRefusal : List ℕ → NumberRead → Refusal

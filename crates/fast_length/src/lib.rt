@@ -7,12 +7,13 @@ ghost use lib.ListN.{length};
 ghost use lib.Seq.{paste};
 ghost use Rattle.length.specs.declared.LengthUnit;
 ghost use Rattle.utf8.specs.Characters.{utf8Of};
-ghost use Rattle.stream.specs.Refusals.{admitText};
+ghost use Rattle.stream.specs.Faults.{unexpectedData};
+ghost use Rattle.stream.specs.Refusals.{refusalOf, admitText};
 ghost use Rattle.utf8.specs.declared.Utf8.the-variants.{WellFormed};
 ghost use Rattle.length.specs.Lengths.{unitAt, parseLength, fromStr, nextLength};
 ghost use Rattle.records.specs.Records.{lengthStepRecord};
 ghost use Rattle.fast_length.specs.Told.{toldLength};
-ghost use Rattle.fast_length.specs.Inner.{withUnit, refusalAt, noNumberAt};
+ghost use Rattle.fast_length.specs.Inner.{withUnit, noNumberAt};
 use bytes::Place;
 use fast_numbers::ToldNumber;
 use length::Length;
@@ -48,7 +49,7 @@ pub fn from_str(text: &[u8]) -> LengthAnswer
         Admission::Refused(refusal) => LengthAnswer::Refused(refusal),
         Admission::Admitted => {
             if 0 < next {
-                return LengthAnswer::Refused(refusal_at(text, 6, told.next));
+                return LengthAnswer::Refused(left_at(text, told.next));
             }
             LengthAnswer::Refused(no_number_at(text, Place(0)))
         }
@@ -122,15 +123,12 @@ fn if_byte(c: u8, wanted: u8, unit: LengthUnit) -> LengthUnit
     if c == wanted { unit } else { LengthUnit::None }
 }
 
-// A refusal that tells its number and the position of a place.
-fn refusal_at(text: &[u8], number: u8, at: Place) -> Refusal
+// The refusal of bytes that are left.
+fn left_at(text: &[u8], at: Place) -> Refusal
     requires { ⌜ utf8Of (now text) ≡ WellFormed ⌝ }
-    ensures { λ r. ⌜ r ≡ refusalAt (now (text .entry)) number (at .0) ⌝ }
+    ensures { λ r. ⌜ r ≡ refusalOf (now (text .entry)) (unexpectedData (now (text .entry)) (at .0)) ⌝ }
 {
-    let mut refusal = stream::bare_refusal(number);
-    let position = utf8::calc_char_pos_at(text, at);
-    refusal.position = position;
-    refusal
+    stream::refusal_of(text, stream::unexpected_data(text, at))
 }
 
 // The refusal of a text that has no number at a place.
@@ -141,12 +139,12 @@ fn no_number_at(text: &[u8], at: Place) -> Refusal
     let start = bytes::skip_spaces(text, at);
     let i = start.0;
     if text.len() <= i {
-        return refusal_at(text, 22, start);
+        return stream::refusal_at(text, 22, start);
     }
     if numbers::starts_number(text[i]) {
         return trouble_at(text, at);
     }
-    refusal_at(text, 9, start)
+    stream::refusal_at(text, 9, start)
 }
 
 // The same where a number starts: the plain reader says which of its troubles it has.

@@ -11,16 +11,16 @@ use Rattle.utf8.specs.Moves.{moveUtf8}
 use Rattle.stream.specs.Refusals.{admitUtf8, admitText, thenAdmitted}
 use Rattle.utf8.specs.declared.Utf8.{Utf8}
 use Rattle.utf8.specs.declared.Utf8.the-variants.{WellFormed, IllFormed}
-use Rattle.packed.specs.Numbers.{noPaint}
+use Rattle.packed.specs.Numbers.{noPaint, stretchStart, refusalNumber}
 use Rattle.utf8.proofs.Walks.{ascii-utf8, utf8-join}
 
 -- two texts that are UTF-8 together
 pub admits-alike : (s t : List ℕ) (x : ℕ) → length s ≤ 4096 → length t ≤ 4096 → (utf8Of s ≡ WellFormed → utf8Of t ≡ WellFormed) → (utf8Of t ≡ WellFormed → utf8Of s ≡ WellFormed)
-    → thenAdmitted (λ e. noPaint + e .number) (admitText s) x ≡ thenAdmitted (λ e. noPaint + e .number) (admitText t) x
-unfolding admitText admitUtf8
+    → thenAdmitted (λ e. noPaint + refusalNumber e) (admitText s) x ≡ thenAdmitted (λ e. noPaint + refusalNumber e) (admitText t) x
+unfolding admitText admitUtf8 stretchStart
 admits-alike s t x h k f g = simp (le-leb (length s) 4096 h, le-leb (length t) 4096 k) (go (utf8Of s) (utf8Of t) f g)
   where
-    go : (u v : Utf8) → (u ≡ WellFormed → v ≡ WellFormed) → (v ≡ WellFormed → u ≡ WellFormed) → thenAdmitted (λ e. noPaint + e .number) (admitUtf8 u) x ≡ thenAdmitted (λ e. noPaint + e .number) (admitUtf8 v) x
+    go : (u v : Utf8) → (u ≡ WellFormed → v ≡ WellFormed) → (v ≡ WellFormed → u ≡ WellFormed) → thenAdmitted (λ e. noPaint + refusalNumber e) (admitUtf8 u) x ≡ thenAdmitted (λ e. noPaint + refusalNumber e) (admitUtf8 v) x
     go WellFormed v f g = rw (f refl) refl
     go (IllFormed p) WellFormed f g = let y : IllFormed p ≡ WellFormed = g refl in let z : _≡_ {A = ℕ} 0 1 = cc in absurd (omega arith)
     go (IllFormed p) (IllFormed q) f g = refl
@@ -49,5 +49,5 @@ module _ (n : ℕ) (s : List ℕ) (f : (j : ℕ) → j < n → getD s j 0 < 128)
       go WellFormed e = refl
       go (IllFormed p) e = let z : _≡_ {A = ℕ} 0 1 = cc in absurd (omega arith)
 
-  pub admits-after : (x : ℕ) → length s ≤ 4096 → thenAdmitted (λ e. noPaint + e .number) (admitText s) x ≡ thenAdmitted (λ e. noPaint + e .number) (admitText (drop n s)) x
+  pub admits-after : (x : ℕ) → length s ≤ 4096 → thenAdmitted (λ e. noPaint + refusalNumber e) (admitText s) x ≡ thenAdmitted (λ e. noPaint + refusalNumber e) (admitText (drop n s)) x
   admits-after x h = admits-alike s (drop n s) x h (omega (arith, length-drop n s)) ascii-after ascii-before

@@ -9,7 +9,7 @@ use lib.ListN.{length, getD, take, drop, length-drop, length-take}
 use Rattle.utf8.specs.Blanks.{trimStart, trimOf}
 use Rattle.bytes.specs.Bytes.{isSpace, within}
 use Rattle.bytes.specs.Flow.{bind}
-use Rattle.stream.specs.Refusals.{numberOf, bareRefusal, refusalOf, admitText, thenAdmitted}
+use Rattle.stream.specs.Refusals.{emptyRefusal, refusalOf, admitText, thenAdmitted}
 use Rattle.stream.specs.declared.Refusal.{Refusal}
 use Rattle.bytes.specs.Scan.{scan}
 use Rattle.stream.specs.declared.Admission.{Admission}
@@ -17,6 +17,11 @@ use Rattle.stream.specs.declared.Admission.the-variants as M
 use Rattle.utf8.proofs.Cuts.{trim-utf8}
 use Rattle.bytes.proofs.Ranges.{and-first, and-second}
 use Rattle.bytes.proofs.Parts.{rest-part}
+use Rattle.stream.specs.declared.Fault.{Fault}
+use Rattle.stream.proofs.Edges.{admitted-small}
+use Rattle.stream.proofs.Stretches.{LiesAt}
+use Rattle.paint.proofs.Steps.{trim-small}
+use Rattle.paint.proofs.Stretches.{paint-lies}
 use Rattle.paint.specs.Answers.{fromStr}
 use Rattle.paint.specs.Moves.{movePaint, thenPaintRead}
 use Rattle.paint.specs.Reading.{parsePaint}
@@ -24,30 +29,30 @@ use Rattle.paint.specs.declared.Paint.{Paint}
 use Rattle.paint.specs.declared.PaintAnswer.the-variants as A
 use Rattle.paint.specs.declared.PaintRead.{PaintRead}
 use Rattle.paint.specs.declared.PaintRead.the-variants as R
-use Rattle.packed.specs.Numbers.{noPaint, paintNumber, decodedPaint, paintOr}
+use Rattle.packed.specs.Numbers.{noPaint, places, paintNumber, decodedPaint, stretchStart, refusalNumber, paintOr}
 use Rattle.packed.proofs.Decoding.{paint-told}
-use Rattle.fast_paint.specs.Told.{untold, orTold, readNumber, innerNumber}
-use Rattle.fast_color.proofs.Bare.{admit-low, fault-bare}
+use Rattle.fast_paint.specs.Told.{untold, orTold, faultNumber, readNumber, innerNumber}
+use Rattle.fast_color.proofs.Empty.{admit-low, admit-near, fault-empty}
 use Rattle.fast_paint.proofs.Admits.{admits-alike}
-use Rattle.fast_paint.proofs.Tells.{right, told-is}
+use Rattle.fast_paint.proofs.Tells.{right, told-is, fault-number}
 use Rattle.fast_paint.proofs.Trims.{Ending, trimmed-is, trimmed-from, trimmed-utf8}
 
 -- the number of an answer, by the number of what is read
-answer-read : (s : List ℕ) → paintOr (fromStr s) ≡ thenAdmitted (λ e. noPaint + e .number) (admitText s) (readNumber (trimStart s) (trimOf s))
-unfolding fromStr readNumber paintOr refusalOf bind
+answer-read : (s : List ℕ) → paintOr (fromStr s) ≡ thenAdmitted (λ e. noPaint + refusalNumber e) (admitText s) (readNumber (trimStart s) (trimOf s))
+unfolding fromStr readNumber paintOr bind
 answer-read s = go (admitText s) (parsePaint (trimOf s))
   where
     go : (x : Admission) (y : PaintRead)
         → paintOr (thenAdmitted A.Refused x (thenPaintRead (λ e b. A.Refused (refusalOf (drop (b .0) (trimOf s)) e)) y (λ v. A.Value (movePaint (trimStart s) v))))
-        ≡ thenAdmitted (λ e. noPaint + e .number) x (thenPaintRead (λ e b. noPaint + numberOf (e .trouble)) y (λ v. paintNumber (movePaint (trimStart s) v)))
+        ≡ thenAdmitted (λ e. noPaint + refusalNumber e) x (thenPaintRead (λ e b. noPaint + faultNumber e) y (λ v. paintNumber (movePaint (trimStart s) v)))
     go M.Admitted (R.Value v) = refl
-    go M.Admitted (R.Refused e b) = refl
+    go M.Admitted (R.Refused e b) = ap (λ n. noPaint + n) (fault-number (drop (b .0) (trimOf s)) e)
     go (M.Refused e) y = refl
 
 -- a text that is too long
-pub long-told : (s : List ℕ) → 4096 < length s → orTold (noPaint + 1) (paintOr (fromStr s)) ≡ paintOr (fromStr s)
-unfolding admitText
-long-told s h = right (noPaint + 1) (paintOr (fromStr s)) (rw (answer-read s) (simp (lt-leb (length s) 4096 h)))
+pub long-told : (s : List ℕ) → 4096 < length s → orTold (noPaint + places) (paintOr (fromStr s)) ≡ paintOr (fromStr s)
+unfolding admitText stretchStart
+long-told s h = right (noPaint + places) (paintOr (fromStr s)) (rw (answer-read s) (simp (lt-leb (length s) 4096 h)))
 
 -- x and y are what the tests of the first and the last byte answered, r what is told of the part between
 pub part-told : (s : List ℕ) (a e r : ℕ) {x y : Bool} → a ≡ scan isSpace s 0 → a < e → e ≤ length s → scan isSpace s e ≡ length s → length s ≤ 4096
@@ -82,19 +87,31 @@ module _ (s : List ℕ) (r : ℕ) (q : orTold r (paintOr (fromStr (take (length 
   pub told-paint : {v : Paint} → v ≡ decodedPaint r → r < noPaint → A.Value v ≡ fromStr s
   told-paint e h = rw e (paint-told s r (told-answer (omega arith)) h)
 
--- a paint's refusal: a text that may not be read, or a fault in a part of it. 4 and 5 tell nothing else
-pub paint-bare : (s : List ℕ) (e : Refusal) → fromStr s ≡ A.Refused e → (n : ℕ) → e .number ≡ n → 3 < n → n < 6 → e ≡ bareRefusal n
-unfolding fromStr bind refusalOf
-paint-bare s e q n k l h = go (admitText s) refl (parsePaint (trimOf s)) q
-  where
-    same : {x : Refusal} → A.Refused x ≡ A.Refused e → x ≡ e
-    same h = cc
+-- a paint's refusal: a text that may not be read, or a fault that lies in a part of it
+module _ (s : List ℕ) (e : Refusal) (q : fromStr s ≡ A.Refused e) where
+  refused-by : (P : Refusal → Type 0) → ((g : Refusal) → admitText s ≡ M.Refused g → P g)
+      → ((f : Fault) (t : List ℕ) → length t ≤ 4096 → LiesAt (length t) f → P (refusalOf t f)) → P e
+  unfolding fromStr bind
+  refused-by P a b = go (admitText s) refl (parsePaint (trimOf s)) refl q
+    where
+      same : {x : Refusal} → A.Refused x ≡ A.Refused e → x ≡ e
+      same h = cc
 
-    go : (x : Admission) → admitText s ≡ x → (y : PaintRead)
-        → thenAdmitted A.Refused x (thenPaintRead (λ f b. A.Refused (refusalOf (drop (b .0) (trimOf s)) f)) y (λ v. A.Value (movePaint (trimStart s) v))) ≡ A.Refused e → e ≡ bareRefusal n
-    go M.Admitted a (R.Value v) h = let z : _≡_ {A = ℕ} 0 1 = cc in absurd (omega arith)
-    go M.Admitted a (R.Refused f b) m =
-        let z = same m in
-        let g : numberOf (f .trouble) ≡ n = ap (λ x. x .number) z ∙ k in
-        sym z ∙ fault-bare (drop (b .0) (trimOf s)) f n g h
-    go (M.Refused g) a y m = let z = same m in let x : g .number ≡ n = ap (λ x. x .number) z ∙ k in absurd (omega (arith, admit-low s g a))
+      go : (x : Admission) → admitText s ≡ x → (y : PaintRead) → parsePaint (trimOf s) ≡ y
+          → thenAdmitted A.Refused x (thenPaintRead (λ f b. A.Refused (refusalOf (drop (b .0) (trimOf s)) f)) y (λ v. A.Value (movePaint (trimStart s) v))) ≡ A.Refused e → P e
+      go M.Admitted k (R.Value v) l h = let z : _≡_ {A = ℕ} 0 1 = cc in absurd (omega arith)
+      go M.Admitted k (R.Refused f d) l h =
+          let z = same h in
+          let n = trim-small (trimOf s) s refl (admitted-small s refl k) in
+          rw z at (b f (drop (d .0) (trimOf s)) (omega (arith, length-drop (d .0) (trimOf s))) (paint-lies (trimOf s) f d l))
+      go (M.Refused g) k y l h = let z = same h in rw z at (a g k)
+
+  pub paint-near : e .from .0 < places
+  unfolding refusalOf
+  paint-near = refused-by (λ x. x .from .0 < places) (λ g h. admit-near s g h) (λ f t m l. omega (arith, l .lies .ordered, l .lies .inside))
+
+  pub paint-empty : e .number ≡ 5 → e ≡ emptyRefusal 5 (e .from .0)
+  unfolding refusalOf
+  paint-empty k =
+      refused-by (λ x. x .number ≡ 5 → x ≡ emptyRefusal 5 (x .from .0)) (λ g z m. absurd (omega (arith, admit-low s g z)))
+      (λ f t n l m. fault-empty t f l m) k

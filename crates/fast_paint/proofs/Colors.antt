@@ -1,8 +1,8 @@
 -- A text that is no link: a keyword, a colour, or no paint.
-use Prim.Native.Nat.{ℕ, suc, _+_, _-_, _*_, _≤_, _<_}
+use Prim.Native.Nat.{ℕ, suc, _+_, _-_, _*_, _/_, _%_, _≤_, _<_}
 use mathlib.Core.Bool.{Bool, true, false, _||_, cond}
 use mathlib.Core.List.{List, [], _∷_}
-use mathlib.Core.Path.{_≡_, refl, sym, _∙_}
+use mathlib.Core.Path.{_≡_, refl, sym, ap, _∙_}
 use native.Mathlib.Omega.{arith}
 use borrow.Author.Tests.{lt-ltb, le-ltb}
 use lib.Dec.{eqb, ltb}
@@ -12,12 +12,15 @@ use Rattle.utf8.specs.Characters.{keeps, rowOf, lenAt, charLen, walk, utf8Of}
 use Rattle.bytes.specs.Moves.{place}
 use Rattle.stream.specs.Faults.{invalidValue}
 use Rattle.stream.specs.Refusals.{numberOf, refusalOf, isOutsideDomain, admitUtf8, admitText, thenAdmitted}
+use Rattle.bytes.specs.declared.Place.{Place}
 use Rattle.stream.specs.declared.Fault.{Fault}
 use Rattle.stream.specs.declared.Refusal.{Refusal}
 use Rattle.bytes.specs.Words.{ascii, same, startsWith, isCurrByteEq}
 use Rattle.stream.specs.declared.Admission.{Admission}
 use Rattle.stream.specs.declared.Admission.the-variants as M
-use Rattle.stream.proofs.Edges.{outside-is}
+use Rattle.stream.proofs.Edges.{admitted-small, outside-is}
+use Rattle.stream.proofs.Stretches.{LiesAt}
+use Rattle.color.proofs.Stretches.{text-lies}
 use Rattle.bytes.proofs.Ranges.{either}
 use Rattle.bytes.proofs.Wording.{same-eq}
 use Rattle.color.specs.Answer as color
@@ -31,11 +34,11 @@ use Rattle.paint.specs.Moves.{movePaint, thenPaintRead}
 use Rattle.paint.specs.Reading.{parsePlain, parsePaint}
 use Rattle.paint.specs.declared.Paint.the-variants as P
 use Rattle.paint.specs.declared.PaintRead.the-variants as R
-use Rattle.packed.specs.Numbers.{noColor, noPaint, colors, fallbacks, fallbackNumber, paintNumber, colorOr}
-use Rattle.packed.proofs.Decoding.{number-back, color-told, color-refused}
-use Rattle.fast_color.proofs.Bare.{fault-within, admit-low}
-use Rattle.fast_paint.specs.Told.{orTold, keywordOf, readNumber, innerNumber, withColor, uncolored}
-use Rattle.fast_paint.proofs.Tells.{right}
+use Rattle.packed.specs.Numbers.{noColor, noPaint, places, colors, fallbacks, fallbackNumber, paintNumber, stretchStart, refusalNumber, colorOr}
+use Rattle.packed.proofs.Decoding.{number-back, color-told, color-refused, start-near}
+use Rattle.fast_color.proofs.Empty.{fault-within, admit-low, admit-near}
+use Rattle.fast_paint.specs.Told.{orTold, keywordOf, faultNumber, readNumber, innerNumber, kept, uncolored, withColor}
+use Rattle.fast_paint.proofs.Tells.{right, fault-number}
 
 -- what the number of a colour's text tells
 module _ (t : List ℕ) (v : ℕ) (q : v ≡ colorOr (color.fromStr t)) where
@@ -47,7 +50,7 @@ module _ (t : List ℕ) (v : ℕ) (q : v ≡ colorOr (color.fromStr t)) where
   unfolding withColor
   with-none n h =
       let r = color-refused t v q h in
-      let e : v - noColor ≡ r .0 .number = omega (arith, r .1 .1) in
+      let e : v - noColor ≡ refusalNumber (r .0) = omega (arith, r .1 .1) in
       rw (r .1 .0, e) refl
 
 -- a keyword
@@ -92,32 +95,37 @@ plain-paint t q e =
 
 abbrev shown : ColorAnswer → ℕ
 shown (C.Value c) = paintNumber (P.Color c)
-shown (C.Refused e) = uncolored (e .number)
+shown (C.Refused e) = uncolored (refusalNumber e)
 
-fault-shown : (e : Fault) → uncolored (numberOf (e .trouble)) ≡ noPaint + numberOf (cond (isOutsideDomain e) e (invalidValue (e .at .0)) .trouble)
+-- the parts of a refusal's number
+parts-back : (n i : ℕ) → i < places → ((n * places + i) / places ≡ n) × ((n * places + i) % places ≡ i)
+parts-back n i h = (omega arith, omega arith)
+
+fault-shown : (e : Fault) {n : ℕ} → n ≤ 4096 → LiesAt n e → uncolored (faultNumber e) ≡ noPaint + faultNumber (cond (isOutsideDomain e) e (invalidValue (e .at .0)))
 unfolding uncolored numberOf
-fault-shown e =
+fault-shown e m v =
     let n = numberOf (e .trouble) in
+    let w = parts-back n (e .from .0) (omega (arith, v .lies .ordered, v .lies .inside)) in
     let l : ltb n 4 ≡ false = le-ltb n 4 (omega (arith, fault-within (e .trouble) .low)) in
-    either (eqb n 10 || (eqb n 23 || eqb n 24)) (λ f. simp (l, outside-is e, f)) (λ f. simp (l, outside-is e, f))
+    either (eqb n 10 || (eqb n 23 || eqb n 24)) (λ f. simp (w .0, l, outside-is e, f)) (λ f. simp (w .0, w .1, l, outside-is e, f) (ap (λ (p : Place). noPaint + (5 * places + p .0)) (v .start)))
 
-barred-shown : (n : ℕ) → n < 3 → uncolored n ≡ noPaint + n
+barred-shown : (e : Refusal) → e .number < 3 → e .from .0 < places → uncolored (refusalNumber e) ≡ noPaint + refusalNumber e
 unfolding uncolored
-barred-shown n h = simp (lt-ltb n 4 (omega arith))
+barred-shown e h k = simp (parts-back (e .number) (stretchStart e) (start-near e k) .0, lt-ltb (e .number) 4 (omega arith))
 
 plain-inner : (by : ℕ) (t : List ℕ) → parsePaint t ≡ parsePlain t → shown (color.fromStr t) ≡ innerNumber by t
-unfolding innerNumber readNumber parsePlain movePaint color.fromStr refusalOf
-plain-inner by t w = rw w (go (admitText t) refl (parseColorText t))
+unfolding innerNumber readNumber parsePlain movePaint color.fromStr
+plain-inner by t w = rw w (go (admitText t) refl (parseColorText t) refl)
   where
-    go : (x : Admission) → admitText t ≡ x → (r : ColorRead)
+    go : (x : Admission) → admitText t ≡ x → (r : ColorRead) → parseColorText t ≡ r
         → shown (thenAdmitted C.Refused x (thenColor (λ e. C.Refused (refusalOf t e)) r (λ c p. C.Value c)))
-        ≡ thenAdmitted (λ e. noPaint + e .number) x
-        (thenPaintRead (λ e b. noPaint + numberOf (e .trouble))
+        ≡ thenAdmitted (λ e. noPaint + refusalNumber e) x
+        (thenPaintRead (λ e b. noPaint + faultNumber e)
         (thenColor (λ e. cond (isOutsideDomain e) (R.Refused e (place 0)) (R.Refused (invalidValue (e .at .0)) (place 0))) r (λ c p. R.Value (P.Color c)))
         (λ v. paintNumber (movePaint by v)))
-    go M.Admitted k (K.Value c p) = refl
-    go M.Admitted k (K.Refused e) = fault-shown e ∙ either (isOutsideDomain e) (λ f. simp f) (λ f. simp f)
-    go (M.Refused e) k r = barred-shown (e .number) (admit-low t e k)
+    go M.Admitted k (K.Value c p) q = refl
+    go M.Admitted k (K.Refused e) q = ap uncolored (fault-number t e) ∙ fault-shown e (admitted-small t refl k) (text-lies t e q) ∙ either (isOutsideDomain e) (λ f. simp f) (λ f. simp f)
+    go (M.Refused e) k r q = barred-shown e (admit-low t e k) (admit-near t e k)
 
 -- b and k are what the tests of the first byte and of the keywords answered, v is the colour's number
 module _ (by : ℕ) (t : List ℕ) (v : ℕ) {b : Bool} {k : ℕ} (u : b ≡ isCurrByteEq t 0 117) (z : b ≡ false) (w : k ≡ keywordOf t) (s : k ≤ 0) (q : v ≡ colorOr (color.fromStr t)) where
@@ -133,22 +141,22 @@ module _ (by : ℕ) (t : List ℕ) (v : ℕ) {b : Bool} {k : ℕ} (u : b ≡ isC
   pub inner-none : {r : ℕ} → noColor ≤ v → r ≡ uncolored (v - noColor) → orTold r (innerNumber by t) ≡ innerNumber by t
   inner-none {r} h f =
       let g = color-refused t v q h in
-      let e : v - noColor ≡ g .0 .number = omega (arith, g .1 .1) in
+      let e : v - noColor ≡ refusalNumber (g .0) = omega (arith, g .1 .1) in
       let x : r ≡ shown (color.fromStr t) = rw (g .1 .0, ← e) f in
       right r (innerNumber by t) (x ∙ inner-is)
 
 -- the refusals that are told are few
-pub refusal-few : (v : ℕ) → v < noColor + 32 → noColor ≤ v → v - noColor < 32
+pub refusal-few : (v : ℕ) → v < noColor + 32 * places → noColor ≤ v → v - noColor < 32 * places
 refusal-few v h l = omega arith
 
 module _ (n : ℕ) where
-  pub kept-number : (ltb n 4 || (eqb n 10 || (eqb n 23 || eqb n 24))) ≡ true → noPaint + n ≡ uncolored n
+  pub kept-number : kept (n / places) ≡ true → noPaint + n ≡ uncolored n
   unfolding uncolored
   kept-number h = simp h
 
-  pub other-number : (ltb n 4 || (eqb n 10 || (eqb n 23 || eqb n 24))) ≡ false → noPaint + 5 ≡ uncolored n
+  pub other-number : kept (n / places) ≡ false → noPaint + 5 * places + n % places ≡ uncolored n
   unfolding uncolored
-  other-number h = simp h
+  other-number h = simp h (omega arith)
 
 pub ruleset uncoloring = (kept-number, other-number)
 

@@ -3,7 +3,7 @@ use Prim.Native.Nat.{ℕ, zero, suc, _+_, _-_, _*_, _≤_, _<_}
 use mathlib.Core.Bool.{Bool, true, false, _&&_, cond}
 use mathlib.Core.List.{List, [], _∷_, _++_}
 use mathlib.Core.Logic.{⊎-elim}
-use mathlib.Core.Path.{_≡_, refl, sym, _∙_}
+use mathlib.Core.Path.{_≡_, refl, sym, ap, _∙_}
 use native.Mathlib.Omega.{arith}
 use borrow.Author.Tests.{eqb-true, ltb-true, le-leb, lt-leb}
 use lib.Dec.{eqb, ltb, leb}
@@ -48,10 +48,10 @@ use Rattle.paint.specs.declared.Paint.the-variants as P
 use Rattle.paint.specs.declared.PaintFallback.the-variants as F
 use Rattle.paint.specs.declared.PaintRead.{PaintRead}
 use Rattle.paint.specs.declared.PaintRead.the-variants as R
-use Rattle.packed.specs.Numbers.{noPaint, places, starts, lens, fallbackNumber, paintNumber}
-use Rattle.fast_paint.specs.Told.{orTold, readNumber, innerNumber, withColor, withFallback, withRest}
+use Rattle.packed.specs.Numbers.{noPaint, places, starts, lens, fallbackNumber, paintNumber, refusalNumber}
+use Rattle.fast_paint.specs.Told.{orTold, faultNumber, readNumber, innerNumber, withColor, withFallback, withRest}
 use Rattle.fast_paint.proofs.Admits.{front-utf8, admits-after}
-use Rattle.fast_paint.proofs.Tells.{right}
+use Rattle.fast_paint.proofs.Tells.{right, fault-number}
 
 -- the rest of a text, as the code makes the part
 pub with-part : (n : ℕ) (t : List ℕ) (i : ℕ) {x : ℕ} → x ≡ withFallback n (take (length t - i) (drop i t)) → x ≡ withFallback n (drop i t)
@@ -93,15 +93,15 @@ byte-rest t i {c} e h = rw (← e) at (drop-cons t i 0 (byte-inside t i c e h))
 -- the number of a link and of its fallback, from that of the link
 module _ (by : ℕ) (f : List ℕ) (l : Part) (i n : ℕ) (e : n ≡ 7 + ((by + l .start .0) * starts + l .len * lens)) where
   abbrev pushed : PaintRead → ℕ
-  pushed r = thenPaintRead (λ e b. noPaint + numberOf (e .trouble)) r (λ v. paintNumber (movePaint by v))
+  pushed r = thenPaintRead (λ e b. noPaint + faultNumber e) r (λ v. paintNumber (movePaint by v))
 
   -- a fallback's words may be read
-  fallback-word : (w : List ℕ) → same f w ≡ true → withFallback n w ≡ thenAdmitted (λ e. noPaint + e .number) (admitText w) (pushed (parseFallback w l (place i)))
-      → withFallback n f ≡ thenAdmitted (λ e. noPaint + e .number) (admitText f) (pushed (parseFallback f l (place i)))
+  fallback-word : (w : List ℕ) → same f w ≡ true → withFallback n w ≡ thenAdmitted (λ e. noPaint + refusalNumber e) (admitText w) (pushed (parseFallback w l (place i)))
+      → withFallback n f ≡ thenAdmitted (λ e. noPaint + refusalNumber e) (admitText f) (pushed (parseFallback f l (place i)))
   fallback-word w s q = rw (same-eq f w s) q
 
-  fallback-is : withFallback n f ≡ thenAdmitted (λ e. noPaint + e .number) (admitText f) (pushed (parseFallback f l (place i)))
-  unfolding withFallback withColor parseFallback paintNumber fallbackNumber movePaint color.fromStr refusalOf admitText admitUtf8 utf8Of walk charLen lenAt rowOf keeps within same
+  fallback-is : withFallback n f ≡ thenAdmitted (λ e. noPaint + refusalNumber e) (admitText f) (pushed (parseFallback f l (place i)))
+  unfolding withFallback withColor parseFallback paintNumber fallbackNumber movePaint color.fromStr admitText admitUtf8 utf8Of walk charLen lenAt rowOf keeps within same
   fallback-is =
       either (same f (ascii "none")) (λ a. fallback-word (ascii "none") a (omega arith))
       (λ a. either (same f (ascii "currentColor")) (λ b. fallback-word (ascii "currentColor") b (omega arith))
@@ -109,9 +109,9 @@ module _ (by : ℕ) (f : List ℕ) (l : Part) (i n : ℕ) (e : n ≡ 7 + ((by + 
     where
       go : (x : Admission) (r : ColorRead)
           → withColor n (thenAdmitted K.Refused x (thenColor (λ e. K.Refused (refusalOf f e)) r (λ c p. K.Value c)))
-          ≡ thenAdmitted (λ e. noPaint + e .number) x (pushed (thenColor (λ e. R.Refused e (place i)) r (λ c p. R.Value (P.FuncIRI l (F.Color c)))))
+          ≡ thenAdmitted (λ e. noPaint + refusalNumber e) x (pushed (thenColor (λ e. R.Refused e (place i)) r (λ c p. R.Value (P.FuncIRI l (F.Color c)))))
       go M.Admitted (C.Value c p) = omega arith
-      go M.Admitted (C.Refused g) = refl
+      go M.Admitted (C.Refused g) = ap (λ n. noPaint + n) (fault-number f g)
       go (M.Refused g) r = refl
 
 -- a link from a to q, a run that fits

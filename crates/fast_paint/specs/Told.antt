@@ -1,6 +1,6 @@
 -- What the numbers of the private readers stand for; only their contracts speak of it.
-use Prim.Native.Nat.{ℕ, _+_}
-use mathlib.Core.Bool.{_||_, cond}
+use Prim.Native.Nat.{ℕ, _+_, _*_, _/_, _%_}
+use mathlib.Core.Bool.{Bool, _||_, cond}
 use mathlib.Core.List.{List}
 use lib.Dec.{eqb, leb, ltb}
 use lib.ListN.{length, drop}
@@ -15,11 +15,12 @@ use Rattle.color.specs.declared.ColorAnswer.the-variants as C
 use Rattle.paint.specs.Moves.{movePaint, thenPaintRead}
 use Rattle.paint.specs.Reading.{parsePaint}
 use Rattle.paint.specs.declared.PaintFallback.the-variants as F
-use Rattle.packed.specs.Numbers.{noPaint, fallbackNumber, paintNumber}
+use Rattle.stream.specs.declared.Fault.{Fault}
+use Rattle.packed.specs.Numbers.{noPaint, places, fallbackNumber, paintNumber, refusalNumber}
 
--- the first number that tells nothing: refusals are told below it, by noPaint and their number
+-- the first number that tells nothing: refusals are told below it, by noPaint, their number, of which there are fewer than 32, and where their stretch starts
 abbrev pub untold : ℕ
-untold = noPaint + 32
+untold = noPaint + 32 * places
 
 -- the number told or, where nothing is told, x
 abbrev pub orTold : ℕ → ℕ → ℕ
@@ -34,22 +35,30 @@ keywordOf t =
     (cond (same t (ascii "context-fill")) 4
     (cond (same t (ascii "context-stroke")) 5 0))))
 
+-- the number of the refusal that a fault becomes
+abbrev pub faultNumber : Fault → ℕ
+faultNumber e = numberOf (e .trouble) * places + e .from .0
+
 -- what a trimmed text reads as, with `by` bytes trimmed before it, or its refusal
 unfoldable pub readNumber : ℕ → List ℕ → ℕ
-readNumber by t = thenPaintRead (λ e b. noPaint + numberOf (e .trouble)) (parsePaint t) (λ v. paintNumber (movePaint by v))
+readNumber by t = thenPaintRead (λ e b. noPaint + faultNumber e) (parsePaint t) (λ v. paintNumber (movePaint by v))
 
 -- the same, or the refusal of a text that may not be read
 unfoldable pub innerNumber : ℕ → List ℕ → ℕ
-innerNumber by t = thenAdmitted (λ e. noPaint + e .number) (admitText t) (readNumber by t)
+innerNumber by t = thenAdmitted (λ e. noPaint + refusalNumber e) (admitText t) (readNumber by t)
 
--- a plain colour's refusal, by its number: a paint's is 5, but where the text may not be read, or for a number outside the domain
+-- the numbers that a paint does not swallow: of a text that may not be read, and of a number outside the domain
+abbrev pub kept : ℕ → Bool
+kept n = ltb n 4 || (eqb n 10 || (eqb n 23 || eqb n 24))
+
+-- a plain colour's refusal: a paint's is 5 where its stretch starts, but for these
 unfoldable pub uncolored : ℕ → ℕ
-uncolored n = noPaint + cond (ltb n 4 || (eqb n 10 || (eqb n 23 || eqb n 24))) n 5
+uncolored n = noPaint + cond (kept (n / places)) n (5 * places + n % places)
 
 -- a link whose number is n, with the colour answered as its fallback, or the colour's refusal
 unfoldable pub withColor : ℕ → ColorAnswer → ℕ
 withColor n (C.Value c) = n + fallbackNumber (F.Color c)
-withColor n (C.Refused e) = noPaint + e .number
+withColor n (C.Refused e) = noPaint + refusalNumber e
 
 -- with the fallback that a text reads as
 unfoldable pub withFallback : ℕ → List ℕ → ℕ

@@ -16,6 +16,7 @@ use packed::FALLBACK;
 use packed::LEN;
 use packed::NO_COLOR;
 use packed::NO_PAINT;
+use packed::PLACES;
 use packed::START;
 use paint::PaintAnswer;
 
@@ -23,13 +24,15 @@ mod numbered;
 
 pub use numbered::number;
 
-// The answer where nothing is told. Below it a refusal is told, by NO_PAINT and its number.
-const UNTOLD: u64 = 0x8000_0000_0000_0020;
+// The answer where nothing is told. Below it a refusal is told, by NO_PAINT, its number and where its stretch starts.
+const UNTOLD: u64 = 0x8000_0000_0004_0000;
 
-// A text over the limit, and one that is no paint.
-const TOO_LONG: u64 = 0x8000_0000_0000_0001;
+// A text over the limit; and the first number of a text that is no paint, with the first after all of these.
+const TOO_LONG: u64 = 0x8000_0000_0000_2000;
 
-pub const INVALID: u64 = 0x8000_0000_0000_0005;
+const INVALID: u64 = 0x8000_0000_0000_a000;
+
+const PAST_INVALID: u64 = 0x8000_0000_0000_c000;
 
 // A keyword's kind, 0 for another text.
 fn keyword(text: &[u8]) -> u64
@@ -161,15 +164,16 @@ fn told_inner(text: &[u8], from: Place) -> u64
     uncolored(v - NO_COLOR)
 }
 
-// A plain colour that is refused is 5, but where its text may not be read, or for a number outside the domain.
-fn uncolored(number: u64) -> u64
-    requires { ⌜ number < 32 ⌝ }
-    ensures { λ r. ⌜ r ≡ uncolored number ⌝ }
+// A plain colour that is refused is 5 where its stretch starts, but where its text may not be read, or for a number outside the domain.
+fn uncolored(refusal: u64) -> u64
+    requires { ⌜ refusal < 32 * places ⌝ }
+    ensures { λ r. ⌜ r ≡ uncolored refusal ⌝ }
 {
+    let number = refusal / PLACES;
     if (number < 4) | ((number == 10) | ((number == 23) | (number == 24))) {
-        return NO_PAINT + number;
+        return NO_PAINT + refusal;
     }
-    INVALID
+    INVALID + refusal % PLACES
 }
 
 // Where the spaces at a text's end begin, from `from` on.

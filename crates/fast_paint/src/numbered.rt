@@ -4,8 +4,11 @@ ghost use Rattle.paint.specs.Answers.{fromStr};
 ghost use Rattle.packed.specs.Numbers.{paintAnswerNumber};
 ghost use Rattle.records.specs.Records.{paintRecord, recordFor};
 use crate::INVALID;
+use crate::PAST_INVALID;
 use crate::told;
+use bytes::Place;
 use packed::NO_PAINT;
+use packed::PLACES;
 use paint::PaintAnswer;
 
 pub fn number(text: &[u8], answer: &mut [u64; 24]) -> u64
@@ -16,8 +19,9 @@ pub fn number(text: &[u8], answer: &mut [u64; 24]) -> u64
     if v < NO_PAINT {
         return v;
     }
-    if v == INVALID {
-        records::refused(answer, stream::bare_refusal(5));
+    if (INVALID <= v) & (v < PAST_INVALID) {
+        let at = Place((v % PLACES) as usize);
+        records::refused(answer, stream::empty_refusal(5, at));
         return 0;
     }
     match paint::from_str(text) {

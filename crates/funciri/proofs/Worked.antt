@@ -41,6 +41,6 @@ unfolding parseFuncIri quotedLink isLink hasQuote consumeByte consumeString star
 other-quote = refl
 
 -- 6 at the fourth character
-trailing : paper (iriFromStr (ascii "#a b")) .refusal ≡ record { number = 6; position = record { 0 = 4 }; place = place 0; found = 0; wanted = 0; part = linkAt (place 0) 0 }
+trailing : paper (iriFromStr (ascii "#a b")) .refusal ≡ record { number = 6; position = record { 0 = 4 }; place = place 0; found = 0; wanted = 0; part = linkAt (place 0) 0; from = place 3; to = place 4 }
 unfolding iriFromStr wholeLink parseIri consumeByte scan run bind admitText admitUtf8 utf8Of walk charLen lenAt rowOf keeps within refusalOf numberOf calcCharPosAt count firsts
 trailing = refl

@@ -11,7 +11,7 @@ use Rattle.utf8.specs.Characters.{keeps, rowOf, lenAt, charLen, walk, utf8Of, f
 use Rattle.bytes.specs.Moves.{place, movePlace}
 use Rattle.stream.specs.Faults.{consumeByte}
 use Rattle.bytes.specs.Flow.{bind}
-use Rattle.stream.specs.Refusals.{bareRefusal, numberOf, refusalOf, admitUtf8, admitText, admitPlace}
+use Rattle.stream.specs.Refusals.{emptyRefusal, numberOf, refusalOf, admitUtf8, admitText, admitPlace}
 use Rattle.bytes.specs.Scan.{scan, run}
 use Rattle.bytes.specs.Words.{ascii, same, startsWith, part, isCurrByteEq}
 use Rattle.filter_functions.specs.Filters.{nextFilter, stepOf, parseStep, parseNext, closeBracket, parseArgument, filterName}
@@ -56,7 +56,7 @@ near i (O.Value v p) = O.Value v p
 near i (O.End p) = O.End p
 near i (O.NoneWord p) = O.NoneWord p
 near i (O.Refused r p) =
-    O.Refused (record { number = r .number; position = record { 0 = r .position .0 - i }; place = r .place; found = r .found; wanted = r .wanted; part = r .part }) p
+    O.Refused (record { number = r .number; position = record { 0 = r .position .0 - i }; place = r .place; found = r .found; wanted = r .wanted; part = r .part; from = r .from; to = r .to }) p
 
 abbrev nearing : Next
 nearing s i = near i (nextFilter s i)
@@ -95,7 +95,7 @@ wrong =
       repeats = λ f. let h : 7 ≤ 1 = f (ascii "blur()") 0 in omega arith;
       stays = λ f. let h : 7 ≤ 1 = f (ascii "blur()") 0 in omega arith;
       stays-refused = λ f.
-          let h : O.Refused (bareRefusal 4) (place 0) ≡ O.End (place 0) = f (ascii "x") 0 0 (bareRefusal 4) (place 0) refl (omega arith) in
+          let h : O.Refused (emptyRefusal 4 1) (place 0) ≡ O.End (place 0) = f (ascii "x") 0 0 (emptyRefusal 4 1) (place 0) refl (omega arith) in
           let z : _≡_ {A = ℕ} 0 1 = cc in
           omega arith;
       stops = λ f.

@@ -1,5 +1,5 @@
 -- Lists that are read whole, computed from the definitions.
-use Prim.Native.Nat.{ℕ}
+use Prim.Native.Nat.{ℕ, _+_}
 use mathlib.Core.List.{[], _∷_}
 use mathlib.Core.Path.{_≡_, refl}
 use Rattle.bytes.specs.Bytes.{within}
@@ -26,9 +26,9 @@ abbrev link : ℕ → ℕ → FilterStep
 link start at = O.Value (G.Url (record { start = place start; len = 1 })) (place at)
 
 -- 7: found `)` (41), wanted `(` (40)
-abbrev refused : ℕ → ℕ → FilterStep
-refused position at =
-    O.Refused (record { number = 7; position = record { 0 = position }; place = place 0; found = 41; wanted = 40; part = record { start = place 0; len = 0 } }) (place at)
+abbrev refused : ℕ → ℕ → ℕ → FilterStep
+refused position from at =
+    O.Refused (record { number = 7; position = record { 0 = position }; place = place 0; found = 41; wanted = 40; part = record { start = place 0; len = 0 }; from = place from; to = place (from + 1) }) (place at)
 
 pub record Examples : Type 0 where
   pub one : answers nextFilter (ascii "blur()") 0 ≡ blur 6 ∷ O.End (place 6) ∷ []
@@ -36,7 +36,7 @@ pub record Examples : Type 0 where
   -- the one and the other: the first list place passes the space, and the link moves
   pub both : answers nextFilter (ascii "blur() url(#a) ") 0 ≡ blur 7 ∷ link 12 15 ∷ O.End (place 15) ∷ []
   pub none : answers nextFilter (ascii "blur() none") 0 ≡ blur 7 ∷ O.NoneWord (place 11) ∷ []
-  pub trouble : answers nextFilter (ascii "blur() x) blur()") 0 ≡ blur 7 ∷ refused 9 16 ∷ []
+  pub trouble : answers nextFilter (ascii "blur() x) blur()") 0 ≡ blur 7 ∷ refused 9 8 16 ∷ []
 
 pub examples : Examples
 unfolding answers from follow nextFilter stepOf admitPlace admitText admitUtf8 utf8Of walk charLen lenAt rowOf keeps within onCharacter firsts count calcCharPosAt refusalOf numberOf parseStep afterNone bind scan run parseNext consumeByte parseArgument filterName same part startsWith parseBlur parseUrl isCurrByteEq closeBracket

@@ -52,7 +52,7 @@ values (O.End p ∷ l) = values l
 values (O.NoneWord p ∷ l) = values l
 values (O.Refused e p ∷ l) = values l
 
--- "moved": an answer whose text follows n bytes of k characters. Links' places, list places and refusals' places move by the bytes, listed positions
+-- "moved": an answer whose text follows n bytes of k characters. Links' places, list places and stretches move by the bytes, listed positions
 -- by the characters
 unfoldable pub moveStep : ℕ → ℕ → FilterStep → FilterStep
 moveStep n k (O.Value v p) = O.Value (moveFilterValue n v) (movePlace n p)

@@ -26,7 +26,7 @@ unfolding fromStr parseWhole parseLength unitAt unitRest unitWidth startsWith pa
 one-em = refl
 
 -- `10px ` is 6 at 5
-trailing-space : fromStr (ascii "10px ") ≡ O.Refused (record { number = 6; position = record { 0 = 5 }; place = place 0; found = 0; wanted = 0; part = record { start = place 0; len = 0 } })
+trailing-space : fromStr (ascii "10px ") ≡ O.Refused (record { number = 6; position = record { 0 = 5 }; place = place 0; found = 0; wanted = 0; part = record { start = place 0; len = 0 }; from = place 4; to = place 5 })
 unfolding fromStr parseWhole parseLength unitAt unitRest unitWidth startsWith parseNumber numberFrom finished scaled valueOf scaleOf exponentAt exponentFrom mantissaAt mantissaDot afterSign value scan run within bind powerOf powerBits mul div neg ofInt ofBits admitText admitUtf8 utf8Of walk charLen lenAt rowOf keeps refusalOf numberOf calcCharPosAt count firsts
 trailing-space = refl
 
@@ -41,7 +41,7 @@ unfolding nextLength parseListLength parseListSeparator isCurrByteEq parseLength
 first-step = refl
 
 -- a length list of one space is 22, and its list place the end; an empty one ends
-one-space : nextLength (ascii " ") 0 ≡ S.Refused (record { number = 22; position = record { 0 = 2 }; place = place 0; found = 0; wanted = 0; part = record { start = place 0; len = 0 } }) (place 1)
+one-space : nextLength (ascii " ") 0 ≡ S.Refused (record { number = 22; position = record { 0 = 2 }; place = place 0; found = 0; wanted = 0; part = record { start = place 0; len = 0 }; from = place 1; to = place 1 }) (place 1)
 unfolding nextLength parseListLength parseLength parseNumber scan run bind admitText admitUtf8 utf8Of walk charLen lenAt rowOf keeps within admitPlace onCharacter firsts refusalOf numberOf calcCharPosAt count
 one-space = refl
 

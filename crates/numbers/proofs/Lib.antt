@@ -4,6 +4,7 @@ pub mod Shifts
 pub mod Exact
 pub mod Bounds
 pub mod Values
+pub mod Stretches
 pub mod Sames
 pub mod Nearest
 pub mod Worked

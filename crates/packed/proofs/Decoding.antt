@@ -4,6 +4,9 @@ use mathlib.Core.List.{List}
 use mathlib.Core.Logic.{_↔_}
 use mathlib.Core.Path.{_≡_, refl, sym, ap}
 use native.Mathlib.Omega.{arith}
+use borrow.Author.Tests.{le-leb, lt-leb}
+use lib.Dec.{leb}
+use Rattle.bytes.proofs.Ranges.{either}
 use Rattle.stream.specs.declared.Refusal.{Refusal}
 use Rattle.color.specs.Answer as color
 use Rattle.color.specs.declared.Color.{Color}
@@ -16,7 +19,7 @@ use Rattle.paint.specs.declared.PaintAnswer.{PaintAnswer}
 use Rattle.paint.specs.declared.PaintAnswer.the-variants as A
 use Rattle.paint.specs.declared.PaintFallback.the-variants as F
 use Rattle.packed.specs.Fits.{Bytes, Fits}
-use Rattle.packed.specs.Numbers.{noColor, noPaint, colors, colorNumber, numberColor, fallbackNumber, paintNumber, decodedPaint, colorAnswerNumber, paintAnswerNumber, colorOr, paintOr}
+use Rattle.packed.specs.Numbers.{noColor, noPaint, colors, colorNumber, numberColor, fallbackNumber, paintNumber, decodedPaint, colorAnswerNumber, paintAnswerNumber, places, stretchStart, refusalNumber, colorOr, paintOr}
 use Rattle.packed.proofs.Digits.{red-back, green-back, blue-back, alpha-back, color-below, paint-below, digits-back, tint-kind, tint-alone, link-back, paint-some}
 use Rattle.packed.proofs.Channels.{answer-bytes}
 use Rattle.packed.proofs.Readings.{answer-fits}
@@ -95,12 +98,12 @@ color-told s v q h = go (color.fromStr s) refl q
     go (C.Value c) e k = rw (k, color-back c (color-fits s c e)) (sym e)
     go (C.Refused f) e k = absurd (omega arith)
 
--- where it is noColor or more, the text is refused, and by which number;
-pub color-refused : (s : List ℕ) (v : ℕ) → v ≡ colorOr (color.fromStr s) → noColor ≤ v → (e : Refusal) × ((color.fromStr s ≡ C.Refused e) × (v ≡ noColor + e .number))
+-- where it is noColor or more, the text is refused, by which number and from where on;
+pub color-refused : (s : List ℕ) (v : ℕ) → v ≡ colorOr (color.fromStr s) → noColor ≤ v → (e : Refusal) × ((color.fromStr s ≡ C.Refused e) × (v ≡ noColor + refusalNumber e))
 unfolding colorOr
 color-refused s v q h = go (color.fromStr s) refl q
   where
-    go : (a : ColorAnswer) → color.fromStr s ≡ a → v ≡ colorOr a → (e : Refusal) × ((a ≡ C.Refused e) × (v ≡ noColor + e .number))
+    go : (a : ColorAnswer) → color.fromStr s ≡ a → v ≡ colorOr a → (e : Refusal) × ((a ≡ C.Refused e) × (v ≡ noColor + refusalNumber e))
     go (C.Value c) e k = absurd (omega (arith, color-below c (color-fits s c e)))
     go (C.Refused f) e k = (f, (refl, k))
 
@@ -113,11 +116,33 @@ paint-told s v q h = go (paint.fromStr s) refl q
     go (A.Value p) e k = rw (k, paint-back p (paint-fits s p e)) (sym e)
     go (A.Refused f) e k = absurd (omega arith)
 
--- and where it is noPaint or more, by which number the text is refused.
-pub paint-refused : (s : List ℕ) (v : ℕ) → v ≡ paintOr (paint.fromStr s) → noPaint ≤ v → (e : Refusal) × ((paint.fromStr s ≡ A.Refused e) × (v ≡ noPaint + e .number))
+-- and where it is noPaint or more, by which number the text is refused, and from where on.
+pub paint-refused : (s : List ℕ) (v : ℕ) → v ≡ paintOr (paint.fromStr s) → noPaint ≤ v → (e : Refusal) × ((paint.fromStr s ≡ A.Refused e) × (v ≡ noPaint + refusalNumber e))
 unfolding paintOr
 paint-refused s v q h = go (paint.fromStr s) refl q
   where
-    go : (a : PaintAnswer) → paint.fromStr s ≡ a → v ≡ paintOr a → (e : Refusal) × ((a ≡ A.Refused e) × (v ≡ noPaint + e .number))
+    go : (a : PaintAnswer) → paint.fromStr s ≡ a → v ≡ paintOr a → (e : Refusal) × ((a ≡ A.Refused e) × (v ≡ noPaint + refusalNumber e))
     go (A.Value p) e k = absurd (omega (arith, paint-below p (paint-fits s p e)))
     go (A.Refused f) e k = (f, (refl, k))
+
+-- Where a refusal's stretch starts is told for all but 1 to 3, and it is near.
+pub start-told : (e : Refusal) → 3 < e .number → stretchStart e ≡ e .from .0
+unfolding stretchStart
+start-told e h = simp (lt-leb (e .number) 3 h)
+
+pub start-none : (e : Refusal) → e .number ≤ 3 → stretchStart e ≡ 0
+unfolding stretchStart
+start-none e h = simp (le-leb (e .number) 3 h)
+
+pub start-near : (e : Refusal) → e .from .0 < places → stretchStart e < places
+unfolding stretchStart
+start-near e h = either (leb (e .number) 3) (λ t. simp t (omega arith)) (λ t. simp t h)
+
+-- So a refusal's number is made.
+pub refusal-listed : (e : Refusal) → 3 < e .number → e .number * places + e .from .0 ≡ refusalNumber e
+refusal-listed e l = rw (start-told e l) refl
+
+pub refusal-unlisted : (e : Refusal) → e .number ≤ 3 → e .number * places ≡ refusalNumber e
+refusal-unlisted e l = rw (start-none e l) (omega arith)
+
+pub ruleset refusing = (refusal-listed, refusal-unlisted)

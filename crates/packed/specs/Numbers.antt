@@ -1,8 +1,9 @@
 -- A value as one number of 63 bits: from bit 0 its kind as in the paper's record of a paint (1 `none`, 2 `inherit`, 3 `currentColor`, 4 `context-fill`, 5 `context-stroke`, 6 a colour, 7 a link), from bit 3 the link's start, from bit 16 its length, from bit 29 its fallback (0 absent, 1 `none`, 2 `currentColor`, 3 a colour), from bit 31 the colour. 0 is no value's number.
 use Prim.Native.Nat.{ℕ, _+_, _*_, _/_, _%_}
 use mathlib.Core.Bool.{cond}
-use lib.Dec.{eqb}
+use lib.Dec.{leb, eqb}
 use Rattle.bytes.specs.declared.Part.{Part}
+use Rattle.stream.specs.declared.Refusal.{Refusal}
 use Rattle.color.specs.declared.Color.{Color}
 use Rattle.color.specs.declared.ColorAnswer.{ColorAnswer}
 use Rattle.color.specs.declared.ColorAnswer.the-variants as C
@@ -111,12 +112,20 @@ unfoldable pub paintAnswerNumber : PaintAnswer → ℕ
 paintAnswerNumber (A.Value p) = paintNumber p
 paintAnswerNumber (A.Refused e) = 0
 
--- a colour's own number, without a kind; for a refusal, noColor and the refusal's number
+-- where a refusal's stretch starts in the text that is read: 1 to 3 have none there
+unfoldable pub stretchStart : Refusal → ℕ
+stretchStart e = cond (leb (e .number) 3) 0 (e .from .0)
+
+-- a refusal: its own number, and where its stretch starts
+abbrev pub refusalNumber : Refusal → ℕ
+refusalNumber e = e .number * places + stretchStart e
+
+-- a colour's own number, without a kind; for a refusal, noColor and the refusal's
 unfoldable pub colorOr : ColorAnswer → ℕ
 colorOr (C.Value c) = colorNumber c
-colorOr (C.Refused e) = noColor + e .number
+colorOr (C.Refused e) = noColor + refusalNumber e
 
 -- a paint's number, or noPaint and the refusal's
 unfoldable pub paintOr : PaintAnswer → ℕ
 paintOr (A.Value p) = paintNumber p
-paintOr (A.Refused e) = noPaint + e .number
+paintOr (A.Refused e) = noPaint + refusalNumber e

@@ -1,15 +1,16 @@
 // A value as one number, which comes back in a register. A text has at most 4,096 bytes, so that a link's start and length take 13 bits each.
 ghost use mathlib.Core.Path.{_≡_};
-ghost use Prim.Native.Nat.{_<_};
+ghost use Prim.Native.Nat.{_*_, _<_};
 ghost use Rattle.paint.specs.Moves.{linkStart};
 ghost use Rattle.paint.specs.declared.Paint.the-variants as Paint;
 ghost use Rattle.packed.specs.Links.{linkLen};
-ghost use Rattle.packed.specs.Numbers.{noColor, noPaint, places, colorNumber, numberColor, fallbackNumber, paintNumber, decodedFallback, decodedLink, decodedPaint};
+ghost use Rattle.packed.specs.Numbers.{noColor, noPaint, places, colorNumber, numberColor, fallbackNumber, paintNumber, decodedFallback, decodedLink, decodedPaint, refusalNumber};
 use bytes::Part;
 use bytes::Place;
 use color::Color;
 use paint::Paint;
 use paint::PaintFallback;
+use stream::Refusal;
 
 // No colour's number: the first number after them.
 pub const NO_COLOR: u64 = 0x1_0000_0000;
@@ -34,7 +35,7 @@ pub const FALLBACK: u64 = 0x2000_0000;
 pub const COLOR: u64 = 0x8000_0000;
 
 // How many starts and lengths there are.
-const PLACES: u64 = 0x2000;
+pub const PLACES: u64 = 0x2000;
 
 pub fn color_number(c: Color) -> u64
     ensures { λ r. ⌜ r ≡ colorNumber c ⌝ }
@@ -126,4 +127,19 @@ pub fn number_paint(v: u64) -> Paint
         6 => Paint::Color(number_color(v / COLOR)),
         _ => Paint::FuncIRI(number_link(v), number_fallback(v)),
     }
+}
+
+// A refusal, which a paint's or a colour's number is told in the place of.
+pub fn refusal_number(e: Refusal) -> u64
+    requires { ⌜ e .number < 32 ⌝ }
+    requires { ⌜ e .from .0 < places ⌝ }
+    ensures { λ r. ⌜ r ≡ refusalNumber e ⌝ }
+    ensures { λ r. ⌜ r < 32 * places ⌝ }
+{
+    let number = (e.number as u64) * PLACES;
+    if e.number <= 3 {
+        return number;
+    }
+    let from = e.from;
+    number + from.0 as u64
 }

@@ -1,4 +1,5 @@
 pub mod Bases
+pub mod Stretches
 pub mod Inside
 pub mod Steps
 pub mod Swallowed

@@ -9,7 +9,10 @@ use lib.Seq.{length-take-le}
 use Rattle.utf8.specs.Blanks.{trimStart, trimEnd, trimPart, trimOf}
 use Rattle.utf8.specs.Characters.{utf8Of}
 use Rattle.bytes.specs.Moves.{movePart}
-use Rattle.stream.specs.Refusals.{refusalOf}
+use Rattle.bytes.specs.Flow.{bind}
+use Rattle.stream.specs.Refusals.{refusalOf, admitText}
+use Rattle.stream.specs.declared.Admission.{Admission}
+use Rattle.stream.specs.declared.Admission.the-variants as M
 use Rattle.stream.specs.declared.Fault.{Fault}
 use Rattle.bytes.specs.declared.Part.{Part}
 use Rattle.bytes.specs.declared.Place.{Place}
@@ -102,14 +105,17 @@ link-inside t v f q s w h = omega (arith, parse-paint-link t (sym q ∙ f), trim
 
 pub ruleset cuts = (trim-small, trim-near, link-inside, base-inside, base-utf8, admitted-small, admitted-utf8)
 
-pub answer-refused : (t : List ℕ) (i : ℕ) (e : Fault) {x : Refusal} → x ≡ refusalOf (take (length t - i) (drop i t)) e → A.Refused x ≡ A.Refused (refusalOf (drop i t) e)
-answer-refused t i e h = rw (h, rest-part)
+-- an admitted text, t what trimming leaves of it, r what that reads as: x is the refusal that the edge made
+pub text-refused : (s : List ℕ) {a : Admission} {t : List ℕ} {r : PaintRead} (e : Fault) (b : Place) {x : Refusal} → a ≡ admitText s → a ≡ M.Admitted → t ≡ trimOf s → r ≡ parsePaint t → r ≡ R.Refused e b
+    → x ≡ refusalOf (take (length t - b .0) (drop (b .0) t)) e → A.Refused x ≡ fromStr s
+unfolding fromStr bind
+text-refused s e b q h w k f m = simp (← q, h, ← w, ← k, f, m, rest-part)
 
 pub answer-value : (s : List ℕ) (v : Paint) {w : Paint} (p : Part) → p ≡ trimPart s → w ≡ movePaint (p .start .0) v → A.Value w ≡ A.Value (movePaint (trimStart s) v)
 unfolding trimPart
 answer-value s v p q h = rw (h, q)
 
-pub ruleset answers = (read-value, read-out, answer-refused, answer-value)
+pub ruleset answers = (read-value, read-out, answer-value)
 
 -- the bytes of the part that was chosen are those that trimming leaves
 abbrev trimmedBytes : List ℕ → List ℕ → Inheritance → List ℕ

@@ -24,6 +24,12 @@ fromStr s =
     (bind (trimOf s) (λ t.
     thenPaintRead (λ e b. A.Refused (refusalOf (drop (b .0) t) e)) (parsePaint t) (λ v. A.Value (movePaint (trimStart s) v))))
 
+-- The text in which a refusal's position and stretch count (document 02, P2): "In a paint they count from the trimmed text, in a fallback from the fallback". 1 and 2 speak of the lent text
+unfoldable pub atHand : List ℕ → List ℕ
+atHand s =
+    thenAdmitted (λ e. s) (admitText s)
+    (bind (trimOf s) (λ t. thenPaintRead (λ e b. drop (b .0) t) (parsePaint t) (λ v. t)))
+
 unfoldable pub isInherit : Paint → Bool
 isInherit P.Inherit = true
 isInherit P.None = false

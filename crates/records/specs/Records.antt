@@ -1,7 +1,7 @@
 -- An answer as a row of 24 numbers, which crosses the C boundary: document 01's record of the answer, laid out alike for every call.
 --   0 the refusal's number, 0 for none; 1 position; 2 place; 3 found; 4 wanted; 5 part's start; 6 part's length
 --   7 a list's state: 0 a value, 1 the end, 2 the end by `none`, 3 refused; 8 the list place; both 0 where there is no list
---   9 .. the result
+--   9 .. 20 the result; 21 and 22 where the refusal's stretch starts and ends
 -- A result has at most twelve numbers; what a call does not use is 0.
 use Prim.Native.Nat.{ℕ}
 use mathlib.Core.Bool.{cond}
@@ -49,7 +49,7 @@ unfoldable pub row : Refusal → ℕ → ℕ → List ℕ → List ℕ
 row e state place v =
     e .number ∷ e .position .0 ∷ e .place .0 ∷ e .found ∷ e .wanted ∷ e .part .start .0 ∷ e .part .len ∷ state ∷ place
     ∷ getD v 0 0 ∷ getD v 1 0 ∷ getD v 2 0 ∷ getD v 3 0 ∷ getD v 4 0 ∷ getD v 5 0 ∷ getD v 6 0 ∷ getD v 7 0
-    ∷ getD v 8 0 ∷ getD v 9 0 ∷ getD v 10 0 ∷ getD v 11 0 ∷ 0 ∷ 0 ∷ 0 ∷ []
+    ∷ getD v 8 0 ∷ getD v 9 0 ∷ getD v 10 0 ∷ getD v 11 0 ∷ e .from .0 ∷ e .to .0 ∷ 0 ∷ []
 
 -- a result, with a list's place or 0
 abbrev pub foundRow : ℕ → List ℕ → List ℕ

@@ -34,6 +34,8 @@ pub fn refused(out: &mut [u64], k: usize, e: Refusal, state: u64, place: Place)
     let at = e.place;
     let part = e.part;
     let start = part.start;
+    let from = e.from;
+    let to = e.to;
     eight(
         out,
         k,
@@ -47,7 +49,7 @@ pub fn refused(out: &mut [u64], k: usize, e: Refusal, state: u64, place: Place)
         state,
     );
     eight(out, k + 8, place.0 as u64, 0, 0, 0, 0, 0, 0, 0);
-    eight(out, k + 16, 0, 0, 0, 0, 0, 0, 0, 0);
+    eight(out, k + 16, 0, 0, 0, 0, 0, from.0 as u64, to.0 as u64, 0);
 }
 
 // A result of one number, two or three.

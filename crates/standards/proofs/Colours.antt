@@ -12,7 +12,7 @@ use Rattle.bytes.specs.Bytes.{isDigit, isUpper, isLower, isSpace, isAsciiIdent}
 use Rattle.bytes.specs.Moves.{place}
 use Rattle.stream.specs.Faults.{invalidValue}
 use Rattle.bytes.specs.Flow.{bind}
-use Rattle.stream.specs.Refusals.{numberOf, bareRefusal, refusalOf, admitText}
+use Rattle.stream.specs.Refusals.{numberOf, emptyRefusal, refusalOf, admitText}
 use Rattle.bytes.specs.Scan.{run, scan}
 use Rattle.bytes.specs.Words.{part, lowerOf, lowered}
 use Rattle.stream.specs.declared.Admission.the-variants.{Admitted}
@@ -106,7 +106,7 @@ module _ (l m : List Blank) (s : List ℕ) (c : Color) (small : length l + (leng
       let k : ltb (length l + (length s + length m)) (length l + (length s + length m)) ≡ false = le-ltb (length l + (length s + length m)) (length l + (length s + length m)) (omega arith) in
       simp (d, n, r, at-end, k)
 
--- 5, as the whole text's answer: it lists no position
-pub refused-text : (s : List ℕ) (i : ℕ) → admitText s ≡ Admitted → parseColor s 0 ≡ C.Refused (invalidValue i) → fromStr s ≡ A.Refused (bareRefusal 5)
+-- 5, as the whole text's answer: it lists no position, and its stretch is empty where reading stopped
+pub refused-text : (s : List ℕ) (i : ℕ) → admitText s ≡ Admitted → parseColor s 0 ≡ C.Refused (invalidValue i) → fromStr s ≡ A.Refused (emptyRefusal 5 i)
 unfolding fromStr parseColorText refusalOf numberOf
 refused-text s i a e = simp (a, e)

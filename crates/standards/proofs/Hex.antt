@@ -12,7 +12,7 @@ use Rattle.bytes.specs.Moves.{place}
 use Rattle.stream.specs.Faults.{invalidValue}
 use Rattle.bytes.specs.Flow.{bind}
 use Rattle.bytes.specs.Scan.{run, scan}
-use Rattle.stream.specs.Refusals.{bareRefusal, admitText}
+use Rattle.stream.specs.Refusals.{emptyRefusal, admitText}
 use Rattle.bytes.specs.declared.Place.{Place}
 use Rattle.stream.specs.declared.Admission.the-variants.{Admitted}
 use Rattle.bytes.proofs.Ranges.{either, allFrom, across, within-ge, within-le}
@@ -115,7 +115,7 @@ hex-refused ds rest e u =
 
 -- and so as a whole text that may be read
 pub hex-refused-text : (ds : List Digit) (rest : List ℕ) → isHexDigit (getD rest 0 0) ≡ false → Unfit (length ds)
-    → admitText (hashed ds ++ rest) ≡ Admitted → fromStr (hashed ds ++ rest) ≡ A.Refused (bareRefusal 5)
+    → admitText (hashed ds ++ rest) ≡ Admitted → fromStr (hashed ds ++ rest) ≡ A.Refused (emptyRefusal 5 (1 + length ds))
 hex-refused-text ds rest e u t = refused-text (hashed ds ++ rest) (1 + length ds) t (hex-refused ds rest e u)
 
 -- every byte that the reader takes for a digit is one of the standard's

@@ -10,7 +10,7 @@ use lib.ListN.{length, getD, length-map}
 use Rattle.bytes.specs.Bytes.{within, isLower, isAsciiIdent}
 use Rattle.bytes.specs.Moves.{place}
 use Rattle.stream.specs.Faults.{invalidValue}
-use Rattle.stream.specs.Refusals.{bareRefusal, admitText}
+use Rattle.stream.specs.Refusals.{emptyRefusal, admitText}
 use Rattle.stream.specs.declared.Admission.the-variants.{Admitted}
 use Rattle.bytes.specs.Words.{ascii, same, lowerOf, lowered}
 use Rattle.bytes.proofs.Ranges.{and-first, and-second, allFrom, across}
@@ -147,5 +147,5 @@ names-other w rest e h f o =
 
 -- and so as a whole text that may be read
 pub names-other-text : (w rest : List ℕ) → every isAsciiIdent w ≡ true → 0 < length w → isAsciiIdent (getD rest 0 0) ≡ false → Other (lowered w)
-    → admitText (w ++ rest) ≡ Admitted → fromStr (w ++ rest) ≡ A.Refused (bareRefusal 5)
+    → admitText (w ++ rest) ≡ Admitted → fromStr (w ++ rest) ≡ A.Refused (emptyRefusal 5 (length w))
 names-other-text w rest e h f o t = refused-text (w ++ rest) (length w) t (names-other w rest e h f o)

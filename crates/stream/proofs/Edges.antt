@@ -10,7 +10,8 @@ use lib.ListN.{length, getD, List·getD-eq-default}
 use Rattle.bytes.specs.Bytes.{isTail}
 use Rattle.utf8.specs.Characters.{utf8Of, onCharacter, firsts, heads, characters, calcCharPosAt}
 use Rattle.stream.specs.Moves.{moveFault, moveRefusal}
-use Rattle.stream.specs.Refusals.{numberOf, bareRefusal, illFormed, refusalOf, outside, isOutsideDomain, admitUtf8, admitText, admitPlace, thenAdmitted}
+use Rattle.stream.specs.Refusals.{numberOf, stretchRefusal, bareRefusal, illFormed, refusalOf, outside, isOutsideDomain, admitUtf8, admitText, admitPlace, thenAdmitted}
+use Rattle.bytes.specs.Moves.{movePlace}
 use Rattle.bytes.specs.declared.Place.{Place}
 use Rattle.stream.specs.declared.Trouble.{Trouble}
 use Rattle.stream.specs.declared.Trouble.the-variants as T
@@ -106,8 +107,8 @@ module _ (s : List ℕ) (i : ℕ) (u : utf8Of s ≡ WellFormed) where
 
 pub ruleset places = (on-first, on-last)
 
--- the columns of a refusal: r is the bare one, p the position
-module _ (s : List ℕ) (f : Fault) {n : ℕ} {r : Refusal} (q : n ≡ numberOf (f .trouble)) (b : r ≡ bareRefusal n) where
+-- the columns of a refusal: r is the one with nothing but its stretch, p the position
+module _ (s : List ℕ) (f : Fault) {n : ℕ} {r : Refusal} (q : n ≡ numberOf (f .trouble)) (b : r ≡ stretchRefusal n (f .from .0) (f .to .0)) where
   pub refusal-bare : n ≤ 5 → r ≡ refusalOf s f
   unfolding refusalOf
   refusal-bare h =
@@ -116,16 +117,16 @@ module _ (s : List ℕ) (f : Fault) {n : ℕ} {r : Refusal} (q : n ≡ numberOf 
       simp (b, ← q, le-leb n 5 h, c, d)
 
   module _ (p : ℕ) (w : p ≡ calcCharPosAt s (f .at .0)) where
-    pub refusal-char : n ≡ 7 → _≡_ {A = Refusal} (record { number = r .number; position = record { 0 = p }; place = r .place; found = f .found; wanted = f .wanted; part = r .part }) (refusalOf s f)
+    pub refusal-char : n ≡ 7 → _≡_ {A = Refusal} (record { number = r .number; position = record { 0 = p }; place = r .place; found = f .found; wanted = f .wanted; part = r .part; from = r .from; to = r .to }) (refusalOf s f)
     unfolding refusalOf
     refusal-char e = simp (b, ← q, e, w)
 
     pub refusal-string : {k : ℕ} → n ≡ 8 → k ≡ f .to .0 - f .from .0
-        → _≡_ {A = Refusal} (record { number = r .number; position = record { 0 = p }; place = r .place; found = r .found; wanted = r .wanted; part = record { start = f .from; len = k } }) (refusalOf s f)
+        → _≡_ {A = Refusal} (record { number = r .number; position = record { 0 = p }; place = r .place; found = r .found; wanted = r .wanted; part = record { start = f .from; len = k }; from = r .from; to = r .to }) (refusalOf s f)
     unfolding refusalOf
     refusal-string e g = simp (b, ← q, e, w, g)
 
-    pub refusal-plain : 5 < n → (n ≡ 7 → ⊥) → (n ≡ 8 → ⊥) → _≡_ {A = Refusal} (record { number = r .number; position = record { 0 = p }; place = r .place; found = r .found; wanted = r .wanted; part = r .part }) (refusalOf s f)
+    pub refusal-plain : 5 < n → (n ≡ 7 → ⊥) → (n ≡ 8 → ⊥) → _≡_ {A = Refusal} (record { number = r .number; position = record { 0 = p }; place = r .place; found = r .found; wanted = r .wanted; part = r .part; from = r .from; to = r .to }) (refusalOf s f)
     unfolding refusalOf
     refusal-plain h x y = simp (b, ← q, lt-leb n 5 h, ne-eqb n 7 x, ne-eqb n 8 y, w)
 
@@ -151,12 +152,31 @@ outside-is f = go (f .trouble)
     go T.MissingDropShadowOffset = refl
     go T.InvalidUrl = refl
 
+-- no fault has a number of 1 to 3
+pub past-three : (t : Trouble) → leb (numberOf t) 3 ≡ false
+unfolding numberOf
+past-three T.UnexpectedEndOfStream = refl
+past-three T.InvalidValue = refl
+past-three T.UnexpectedData = refl
+past-three T.InvalidChar = refl
+past-three T.InvalidString = refl
+past-three T.WrongByte = refl
+past-three T.TextEnded = refl
+past-three T.WrongForm = refl
+past-three T.TooLarge = refl
+past-three T.ScaleOutOfRange = refl
+past-three T.PercentageValue = refl
+past-three T.NegativeValue = refl
+past-three T.InvalidAngle = refl
+past-three T.MissingDropShadowOffset = refl
+past-three T.InvalidUrl = refl
+
 -- shift at the edge: the same fault behind a UTF-8 text
 pub refusal-shift : (a b : List ℕ) (f : Fault) → utf8Of a ≡ WellFormed → refusalOf (a ++ b) (moveFault (length a) f) ≡ moveRefusal (length a) (characters a) (refusalOf b f)
 unfolding refusalOf
-refusal-shift a b f u = columns (numberOf (f .trouble))
+refusal-shift a b f u = columns (numberOf (f .trouble)) (past-three (f .trouble))
   where
-    columns : (n : ℕ) → _≡_ {A = Refusal}
+    columns : (n : ℕ) → leb n 3 ≡ false → _≡_ {A = Refusal}
         (record {
           number = n;
           position = record { 0 = cond (leb n 5) 0 (calcCharPosAt (a ++ b) (length a + f .at .0)) };
@@ -164,6 +184,8 @@ refusal-shift a b f u = columns (numberOf (f .trouble))
           found = cond (eqb n 7) (f .found) 0;
           wanted = cond (eqb n 7) (f .wanted) 0;
           part = record { start = record { 0 = cond (eqb n 8) (length a + f .from .0) 0 }; len = cond (eqb n 8) (length a + f .to .0 - (length a + f .from .0)) 0 };
+          from = movePlace (length a) (f .from);
+          to = movePlace (length a) (f .to);
         })
         (moveRefusal (length a) (characters a) (record {
           number = n;
@@ -172,8 +194,10 @@ refusal-shift a b f u = columns (numberOf (f .trouble))
           found = cond (eqb n 7) (f .found) 0;
           wanted = cond (eqb n 7) (f .wanted) 0;
           part = record { start = record { 0 = cond (eqb n 8) (f .from .0) 0 }; len = cond (eqb n 8) (f .to .0 - f .from .0) 0 };
+          from = f .from;
+          to = f .to;
         }))
-    columns n =
+    columns n g =
         let p = position-shift a b u (f .at .0) in
-        either (leb n 5) (λ h. either (eqb n 8) (λ k. simp (h, k, sub-shift)) (λ k. simp (h, k)))
-        (λ h. either (eqb n 8) (λ k. simp (h, k, p, sub-shift)) (λ k. simp (h, k, p)))
+        either (leb n 5) (λ h. either (eqb n 8) (λ k. simp (g, h, k, sub-shift)) (λ k. simp (g, h, k)))
+        (λ h. either (eqb n 8) (λ k. simp (g, h, k, p, sub-shift)) (λ k. simp (g, h, k, p)))

@@ -25,7 +25,7 @@ abbrev pub moveConsumed : ℕ → Consumed → Consumed
 moveConsumed n (C.Next p) = C.Next (movePlace n p)
 moveConsumed n (C.Refused f) = C.Refused (moveFault n f)
 
--- A refusal whose text follows n bytes of k characters: a listed position moves by the characters, the part of 8 by the bytes, and all else stays; 1 to 5 list no position
+-- A refusal whose text follows n bytes of k characters: a listed position moves by the characters, the part of 8 and the stretch by the bytes, and all else stays. 1 to 5 list no position, and 1 to 3 no stretch of what is read
 abbrev pub moveRefusal : ℕ → ℕ → Refusal → Refusal
 moveRefusal n k r =
     record {
@@ -35,6 +35,8 @@ moveRefusal n k r =
       found = r .found;
       wanted = r .wanted;
       part = record { start = record { 0 = cond (eqb (r .number) 8) (n + r .part .start .0) (r .part .start .0) }; len = r .part .len };
+      from = record { 0 = cond (leb (r .number) 3) (r .from .0) (n + r .from .0) };
+      to = record { 0 = cond (leb (r .number) 3) (r .to .0) (n + r .to .0) };
     }
 
 -- go on from the place after what was wanted, or refuse

@@ -1,5 +1,5 @@
--- The edge: document 01's record of a refusal, and which text may be read.
-use Prim.Native.Nat.{ℕ, _-_}
+-- The edge: document 01's record of a refusal with document 02's stretch, and which text may be read.
+use Prim.Native.Nat.{ℕ, _-_, _≤_}
 use mathlib.Core.Bool.{Bool, true, false, cond}
 use mathlib.Core.List.{List}
 use lib.Dec.{leb, eqb}
@@ -9,6 +9,7 @@ use Rattle.stream.specs.declared.Trouble.{Trouble}
 use Rattle.stream.specs.declared.Trouble.the-variants as T
 use Rattle.stream.specs.declared.Fault.{Fault}
 use Rattle.stream.specs.declared.Refusal.{Refusal}
+use Rattle.bytes.specs.Moves.{place}
 use Rattle.bytes.specs.declared.Place.{Place}
 use Rattle.utf8.specs.declared.Utf8.{Utf8}
 use Rattle.utf8.specs.declared.Utf8.the-variants.{WellFormed, IllFormed}
@@ -33,11 +34,44 @@ numberOf T.InvalidAngle = 13
 numberOf T.MissingDropShadowOffset = 14
 numberOf T.InvalidUrl = 15
 
--- a refusal that tells nothing but its number
-abbrev pub bareRefusal : ℕ → Refusal
-bareRefusal n = record { number = n; position = record { 0 = 0 }; place = record { 0 = 0 }; found = 0; wanted = 0; part = record { start = record { 0 = 0 }; len = 0 } }
+-- a refusal that tells nothing but its number and its stretch
+abbrev pub stretchRefusal : ℕ → ℕ → ℕ → Refusal
+stretchRefusal n from to =
+    record {
+      number = n;
+      position = record { 0 = 0 };
+      place = place 0;
+      found = 0;
+      wanted = 0;
+      part = record { start = place 0; len = 0 };
+      from = place from;
+      to = place to;
+    }
 
--- "A refusal gives number, position (0 where none is listed), place (0 but for 2), found and wanted byte (0 but for 7), a part of the text (empty but for 8)". A position is listed for all from 6 on. The fault's places count in s
+-- document 02, P2: "an empty stretch where reading stopped"
+abbrev pub emptyRefusal : ℕ → ℕ → Refusal
+emptyRefusal n i = stretchRefusal n i i
+
+-- "for 1 and 3, nought and nought": a refusal that tells nothing but its number
+abbrev pub bareRefusal : ℕ → Refusal
+bareRefusal n = emptyRefusal n 0
+
+-- a refusal at a place of s: its position, and an empty stretch there
+abbrev pub refusalAt : List ℕ → ℕ → ℕ → Refusal
+refusalAt s n i =
+    record {
+      number = n;
+      position = record { 0 = calcCharPosAt s i };
+      place = place 0;
+      found = 0;
+      wanted = 0;
+      part = record { start = place 0; len = 0 };
+      from = place i;
+      to = place i;
+    }
+
+-- "A refusal gives number, position (0 where none is listed), place (0 but for 2), found and wanted byte (0 but for 7), a part of the text (empty but for 8)". A position is listed for all from 6 on. The fault's places count in s.
+-- Document 02, P2: "Every refusal record gains the place where the refused piece starts and the place where it ends"
 unfoldable pub refusalOf : List ℕ → Fault → Refusal
 refusalOf s f =
     let n = numberOf (f .trouble) in
@@ -48,6 +82,8 @@ refusalOf s f =
       found = cond (eqb n 7) (f .found) 0;
       wanted = cond (eqb n 7) (f .wanted) 0;
       part = record { start = record { 0 = cond (eqb n 8) (f .from .0) 0 }; len = cond (eqb n 8) (f .to .0 - f .from .0) 0 };
+      from = f .from;
+      to = f .to;
     }
 
 -- "Every other number is 10": wrong form, M too large, scale out of range
@@ -72,9 +108,19 @@ outside T.InvalidUrl = false
 unfoldable pub isOutsideDomain : Fault → Bool
 isOutsideDomain f = outside (f .trouble)
 
--- 2: "place of the first ill-formed sequence"
+-- 2: "place of the first ill-formed sequence"; document 02, P2: "for 2, empty at its place"
 abbrev pub illFormed : Place → Refusal
-illFormed p = record { number = 2; position = record { 0 = 0 }; place = p; found = 0; wanted = 0; part = record { start = record { 0 = 0 }; len = 0 } }
+illFormed p =
+    record {
+      number = 2;
+      position = record { 0 = 0 };
+      place = p;
+      found = 0;
+      wanted = 0;
+      part = record { start = place 0; len = 0 };
+      from = p;
+      to = p;
+    }
 
 unfoldable pub admitUtf8 : Utf8 → Admission
 admitUtf8 WellFormed = A.Admitted
@@ -92,3 +138,8 @@ thenAdmitted out (A.Refused e) k = out e
 -- then "3: list place past the end, or inside a character"
 unfoldable pub admitPlace : List ℕ → ℕ → Admission
 admitPlace s i = thenAdmitted A.Refused (admitText s) (cond (onCharacter s i) A.Admitted (A.Refused (bareRefusal 3)))
+
+-- document 02, P2: a refusal's stretch lies in a text of n bytes
+pub record Inside (n : ℕ) (e : Refusal) : Type 0 where
+  pub ordered : e .from .0 ≤ e .to .0
+  pub ends : e .to .0 ≤ n

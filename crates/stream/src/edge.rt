@@ -2,7 +2,7 @@
 ghost use mathlib.Core.Path.{_≡_};
 ghost use Prim.Native.Nat.{_-_};
 ghost use Rattle.utf8.specs.Characters.{utf8Of, onCharacter};
-ghost use Rattle.stream.specs.Refusals.{numberOf, bareRefusal, refusalOf, isOutsideDomain, illFormed, admitText, admitPlace};
+ghost use Rattle.stream.specs.Refusals.{numberOf, bareRefusal, stretchRefusal, emptyRefusal, refusalAt, refusalOf, isOutsideDomain, illFormed, admitText, admitPlace};
 use crate::Admission;
 use crate::Fault;
 use crate::Refusal;
@@ -37,9 +37,9 @@ fn number_of(trouble: Trouble) -> u8
     }
 }
 
-// A refusal that tells nothing but its number.
-pub fn bare_refusal(number: u8) -> Refusal
-    ensures { λ r. ⌜ r ≡ bareRefusal number ⌝ }
+// A refusal that tells nothing but its number and its stretch.
+fn stretch_refusal(number: u8, from: Place, to: Place) -> Refusal
+    ensures { λ r. ⌜ r ≡ stretchRefusal number (from .0) (to .0) ⌝ }
 {
     Refusal {
         number,
@@ -51,7 +51,34 @@ pub fn bare_refusal(number: u8) -> Refusal
             start: Place(0),
             len: 0,
         },
+        from,
+        to,
     }
+}
+
+// Nothing but its number and an empty stretch.
+pub fn empty_refusal(number: u8, at: Place) -> Refusal
+    ensures { λ r. ⌜ r ≡ emptyRefusal number (at .0) ⌝ }
+{
+    stretch_refusal(number, at, at)
+}
+
+// Nothing but its number.
+pub fn bare_refusal(number: u8) -> Refusal
+    ensures { λ r. ⌜ r ≡ bareRefusal number ⌝ }
+{
+    empty_refusal(number, Place(0))
+}
+
+// A refusal at a place of the text: its position, and an empty stretch there.
+pub fn refusal_at(text: &[u8], number: u8, at: Place) -> Refusal
+    requires { ⌜ utf8Of (now text) ≡ Utf8.WellFormed ⌝ }
+    ensures { λ r. ⌜ r ≡ refusalAt (now (text .entry)) number (at .0) ⌝ }
+{
+    let mut refusal = empty_refusal(number, at);
+    let position = calc_char_pos_at(text, at);
+    refusal.position = position;
+    refusal
 }
 
 // The bytes between two places, 0 where they are the wrong way round.
@@ -70,7 +97,7 @@ pub fn refusal_of(text: &[u8], fault: Fault) -> Refusal
 {
     let trouble = fault.trouble;
     let number = number_of(trouble);
-    let mut refusal = bare_refusal(number);
+    let mut refusal = stretch_refusal(number, fault.from, fault.to);
     if number <= 5 {
         return refusal;
     }
@@ -123,17 +150,9 @@ fn on_character(text: &[u8], place: Place) -> bool
 fn ill_formed(place: Place) -> Refusal
     ensures { λ r. ⌜ r ≡ illFormed place ⌝ }
 {
-    Refusal {
-        number: 2,
-        position: Position(0),
-        place,
-        found: 0,
-        wanted: 0,
-        part: Part {
-            start: Place(0),
-            len: 0,
-        },
-    }
+    let mut refusal = empty_refusal(2, place);
+    refusal.place = place;
+    refusal
 }
 
 // Whether a text may be read: 1, then 2.

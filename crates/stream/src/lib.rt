@@ -13,7 +13,9 @@ pub use edge::admit_from;
 pub use edge::admit_place;
 pub use edge::admit_text;
 pub use edge::bare_refusal;
+pub use edge::empty_refusal;
 pub use edge::is_outside_domain;
+pub use edge::refusal_at;
 pub use edge::refusal_of;
 pub use faults::invalid_value;
 pub use faults::trouble_at;
@@ -50,7 +52,7 @@ pub struct Fault {
     pub wanted: u8,
 }
 
-// Document 01's record of a refusal.
+// Document 01's record of a refusal; with document 02's stretch, the places where the refused piece starts and ends.
 pub struct Refusal {
     pub number: u8,
     pub position: Position,
@@ -58,6 +60,8 @@ pub struct Refusal {
     pub found: u8,
     pub wanted: u8,
     pub part: Part,
+    pub from: Place,
+    pub to: Place,
 }
 
 // The place after what was wanted, or why it is not there.

@@ -1,3 +1,4 @@
+use Rattle.fast_color.proofs.Answers.{stop-fits}
 use Rattle.fast_color.proofs.Hexes.{hexes}
 use borrow.Author.Needs.{needs}
 use Rattle.fast_color.proofs.told_hex.Statement.{statement}
@@ -14,4 +15,5 @@ told-hex-spec =
     (λ c. search (hexes, needs))
     (λ c κs. search needs)
     (λ c. search needs)
+    (λ c. search (stop-fits, needs))
     (λ c. search (hexes, needs)))

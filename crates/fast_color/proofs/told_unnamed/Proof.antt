@@ -1,3 +1,4 @@
+use Rattle.fast_color.proofs.Answers.{stop-fits}
 use Rattle.bytes.proofs.Scans.{scan-inside}
 use Rattle.fast_color.proofs.Names.{names}
 use borrow.Author.Needs.{needs}
@@ -28,5 +29,6 @@ told-unnamed-spec =
     (λ c κs. search needs)
     (λ c. search needs)
     (λ c. search needs)
+    (λ c. search (stop-fits, needs))
     (λ c. search needs)
     (λ c. search (names, scan-inside, needs)))

@@ -1,3 +1,4 @@
+use Rattle.fast_color.proofs.Answers.{stop-fits}
 use Rattle.fast_color.proofs.Names.{names}
 use borrow.Author.Needs.{needs}
 use Rattle.fast_color.proofs.told_word.Statement.{statement}
@@ -16,4 +17,5 @@ told-word-spec =
     (λ c κs. search needs)
     (λ c κs. search needs)
     (λ c. search needs)
+    (λ c. search (stop-fits, needs))
     (λ c. search (names, needs)))

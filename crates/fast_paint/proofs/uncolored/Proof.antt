@@ -9,4 +9,5 @@ uncolored-spec =
     (tie.spec
     (λ c. search needs)
     (λ c. search (uncoloring, needs))
+    (λ c. search needs)
     (λ c. search (uncoloring, needs)))

@@ -3,7 +3,7 @@ use borrow.Author.Needs.{needs}
 use Rattle.stream.proofs.Edges.{edges}
 use Rattle.bytes.proofs.Flows.{flow, also}
 use Rattle.paint.specs.Answers.{fromStr}
-use Rattle.paint.proofs.Steps.{cuts, answers}
+use Rattle.paint.proofs.Steps.{cuts, answers, text-refused}
 use Rattle.paint.proofs.from_str.Statement.{statement}
 use Rattle.paint.proofs.from_str.Tie as tie
 
@@ -26,4 +26,7 @@ from-str-spec =
     (λ c κs. search (cuts, needs))
     (λ c. also paper (unfold fromStr in search (edges, flow, answers, needs) depth 20))
     (λ c. also paper (unfold fromStr in search (edges, flow, answers, needs) depth 20))
-    (λ c. also paper (unfold fromStr in search (edges, flow, answers, needs) depth 20)))
+    (λ c.
+    also paper
+    (text-refused _ _ _ (c .before .before .before .before .before .before .before .before .before .before .before .admit-text .ensures) (c .before .before .before .before .before .before .before .before .before .enum-told .given .1) (c .before .before .before .before .before .before .trimmed .ensures)
+    (c .before .before .before .before .before .parse-paint .ensures) (c .before .before .before .fault .given .1) (c .refusal-of .ensures))))

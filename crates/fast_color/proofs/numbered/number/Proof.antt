@@ -1,4 +1,4 @@
-use Rattle.fast_color.proofs.Numbers.{color-at-once, bares, color-told, color-filled}
+use Rattle.fast_color.proofs.Numbers.{color-at-once, empties, color-told, color-filled}
 use Rattle.paint.specs.Moves.{linkStart}
 use Rattle.packed.specs.Links.{linkLen}
 use borrow.Author.Needs.{needs}
@@ -15,10 +15,9 @@ number-spec =
     (λ c κs. search needs)
     (λ c κs. search needs)
     (λ c. color-at-once _ _ (c .before .before .told-text .ensures) (c .before .if1 .taken) (c .painted .ensures))
-    (λ c. search (bares, needs))
     (λ c κs. search needs)
     (λ c κs. search needs)
-    (λ c. search (bares, needs))
+    (λ c. search (empties, needs))
     (λ c κs. search needs)
     (λ c. search needs)
     (λ c κs. unfold linkStart linkLen in search needs)
