@@ -4,6 +4,21 @@
  * Each call fills whole answers, 24 numbers of 64 bits each; two give a value as one number and fill an answer for a refusal alone. The layouts are those
  * of crates/records/specs/Records.antt, crates/counts/specs/Counts.antt and crates/packed/specs/Numbers.antt, which the proofs cite.
  * Places and parts are counted in bytes of the text, positions in characters from 1. What an answer does not use is 0.
+ *
+ * A refusal tells a stretch besides its position: the bytes from the place `from` up to, and not with, the place `to`. They count from where the position
+ * counts: in a paint from the first byte that trimming leaves, in a fallback from the fallback's first. By the refusal's code:
+ *
+ *     1, 3, 16, 17    none: both are 0, as for a value
+ *     2               empty at its place in the text that was lent, of a paint too
+ *     4               empty at the end of the text
+ *     5               empty where reading stopped, as after the word, the hex digits or the link; in a paint, where its colour or its link was refused
+ *     6               from the position to the end of the text
+ *     7               the byte found, though it may be the first of a longer character
+ *     8               the part found
+ *     9, 22           empty at the position
+ *     10              from the number's first byte to the first that its form cannot take, or to the end of the text
+ *     11 to 15        from the first byte of the filter's name to where reading stopped
+ *     23, 24          the whole number
  */
 #ifndef HOMELUDAF_H
 #define HOMELUDAF_H
@@ -119,8 +134,8 @@ struct homeludaf_answer {
     struct homeludaf_part part;                        /*  5,  6 */
     uint64_t state;                                    /*  7 enum homeludaf_state */
     uint64_t list_place;                               /*  8 where the next step goes on */
-    union {                                            /*  9 .. 23 */
-        uint64_t entries[15];
+    union {                                            /*  9 .. 20 */
+        uint64_t entries[12];
         struct homeludaf_rgba color;
         struct homeludaf_number length;
         struct { struct homeludaf_number given; uint64_t degrees_bits; } angle;
@@ -139,6 +154,9 @@ struct homeludaf_answer {
             } value;
         } filter;
     } result;
+    uint64_t from;                                     /* 21 where the refused stretch starts */
+    uint64_t to;                                       /* 22 where it ends */
+    uint64_t spare;                                    /* 23 always 0 */
 };
 
 enum { HOMELUDAF_ENTRIES = 24 };                       /* the numbers of an answer */

@@ -3,8 +3,9 @@
 
 A, B and A followed by B are each walked from list place to list place, all pairs at once, a round for each step. Where A ends
 without a refusal and not by `none`, the walk of both must be A's values, a list place at A's end moved past the spaces that
-B begins with, and then B's answers moved: list places and links by A's bytes, listed positions by A's characters. Every list
-must hand out at most a sixth as many values as it has bytes, and end after a refusal. Exit status 1 where any pair fails."""
+B begins with, and then B's answers moved: list places, links and (where the program tells them) stretches by A's bytes, listed
+positions by A's characters. Every list must hand out at most a sixth as many values as it has bytes, and end after a refusal.
+Exit status 1 where any pair fails."""
 import random
 import subprocess
 import sys
@@ -55,6 +56,14 @@ def pair(r, names):
     return a.encode(), b.encode()
 
 
+def split(answer):
+    """An answer's words, its stretch taken to the end; the base's protocol tells none."""
+    words = answer.split(" ")
+    if words[6] in ("value", "end", "refused"):
+        return words
+    return words[:6] + words[8:] + words[6:8]
+
+
 def walks(command, texts):
     """The answers of each text from place 0 to its end or its refusal, and one step more."""
     found, open_at = [[] for _ in texts], [(i, 0, False) for i in range(len(texts))]
@@ -63,7 +72,7 @@ def walks(command, texts):
         out = subprocess.run(command, input=lines, capture_output=True, text=True, check=True).stdout.split("\n")
         after = []
         for (i, place, last), answer in zip(open_at, out, strict=False):
-            words = answer.split(" ")
+            words = split(answer)
             found[i].append(words)
             if not last:
                 after.append((i, int(words[7]), words[6] != "value"))
@@ -75,6 +84,8 @@ def moved(words, bytes_before, characters_before):
     words = list(words)
     if int(words[0]) > 5:
         words[1] = str(int(words[1]) + characters_before)
+    if words[6] == "refused" and len(words) == 10:
+        words[8:] = [str(int(w) + bytes_before) for w in words[8:]]
     words[7] = str(int(words[7]) + bytes_before)
     if words[8:9] == ["url"]:
         words[9] = str(int(words[9]) + bytes_before)
@@ -91,7 +102,7 @@ def passing(words, end, lead):
 def sound(text, walk):
     """The bound, and that the step after the last answer is the end."""
     values = sum(w[6] == "value" for w in walk)
-    return 6 * values <= len(text) and walk[-1][:6] == ["0", "0", "0", "0", "0", "-"] and walk[-1][6:] == ["end", str(len(text))]
+    return 6 * values <= len(text) and walk[-1][:6] == ["0", "0", "0", "0", "0", "-"] and walk[-1][6:8] == ["end", str(len(text))] and set(walk[-1][8:]) <= {"0"}
 
 
 def main(pairs, seed, table, command):

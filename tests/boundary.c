@@ -8,6 +8,10 @@ _Static_assert(sizeof(struct homeludaf_told) == 2 * sizeof(uint64_t), "two numbe
 _Static_assert(offsetof(struct homeludaf_answer, result) == 9 * sizeof(uint64_t), "the result starts at entry 9");
 _Static_assert(offsetof(struct homeludaf_answer, result.paint.color) == 13 * sizeof(uint64_t), "a paint's colour at 13");
 _Static_assert(offsetof(struct homeludaf_answer, result.filter.value.shadow.colored) == 16 * sizeof(uint64_t), "whether a shadow has a colour at 16");
+_Static_assert(sizeof(((struct homeludaf_answer *)0)->result) == 12 * sizeof(uint64_t), "a result has twelve entries");
+_Static_assert(offsetof(struct homeludaf_answer, from) == 21 * sizeof(uint64_t), "a stretch starts at entry 21");
+_Static_assert(offsetof(struct homeludaf_answer, to) == 22 * sizeof(uint64_t), "and ends at 22");
+_Static_assert(offsetof(struct homeludaf_answer, spare) == 23 * sizeof(uint64_t), "entry 23 is spare");
 
 #define TEXT(s) (const uint8_t *)(s), sizeof(s) - 1
 #define TEXT_OF(s) { s, sizeof(s) - 1 }
@@ -41,6 +45,22 @@ static void show(const char *what, const struct homeludaf_answer *a)
     printf("\n");
 }
 
+/* The result's entries from one on, and the spare one, are 0. */
+static int unused(const struct homeludaf_answer *a, size_t first)
+{
+    for (size_t i = first; i < COUNT(a->result.entries); i++)
+        if (a->result.entries[i] != 0)
+            return 0;
+    return a->spare == 0;
+}
+
+/* The answer has a refusal's code and stretch; a value has the code 0, and 0 and 0. */
+static int tells(const struct homeludaf_answer *a, uint64_t code, uint64_t from, uint64_t to)
+{
+    return a->code == code && a->from == from && a->to == to;
+}
+
+typedef void whole_call(const uint8_t *, size_t, struct homeludaf_answer *);
 typedef void next_call(const uint8_t *, size_t, size_t, struct homeludaf_answer *);
 typedef void all_call(const uint8_t *, size_t, size_t, struct homeludaf_answer *, size_t, struct homeludaf_told *);
 
@@ -107,7 +127,7 @@ static void whole_colors(void)
     homeludaf_color(TEXT("rgb(10, 20, 30)"), &a);
     show("color", &a);
     expect("color", a.code == HOMELUDAF_OK && a.result.color.red == 10 && a.result.color.green == 20 && a.result.color.blue == 30 && a.result.color.alpha == 255);
-    expect("color, unused entries", a.result.entries[4] == 0 && a.result.entries[14] == 0 && a.state == 0);
+    expect("color, unused entries", unused(&a, 4) && a.state == 0);
 
     memset(&a, 0xff, sizeof a);
     homeludaf_color(TEXT("#12345"), &a);
@@ -177,6 +197,119 @@ static void number_troubles(void)
     }
 }
 
+/* The stretch of each refusal that a whole text can have, and of values none. */
+static const struct {
+    whole_call *call;
+    struct text text;
+    uint64_t code, from, to;
+} whole_told[] = {
+    { homeludaf_color, TEXT_OF("red"), HOMELUDAF_OK, 0, 0 },
+    { homeludaf_length, TEXT_OF(" 1.5em"), HOMELUDAF_OK, 0, 0 },
+    { homeludaf_angle, TEXT_OF("0.5turn"), HOMELUDAF_OK, 0, 0 },
+    { homeludaf_iri, TEXT_OF(" #a "), HOMELUDAF_OK, 0, 0 },
+    { homeludaf_func_iri, TEXT_OF("url(#a)"), HOMELUDAF_OK, 0, 0 },
+    { homeludaf_paint, TEXT_OF(" url(#a) red"), HOMELUDAF_OK, 0, 0 },
+    { homeludaf_color, TEXT_OF("\xc3\xa9\xff"), HOMELUDAF_NOT_UTF8, 2, 2 },
+    { homeludaf_paint, TEXT_OF("  red\xff "), HOMELUDAF_NOT_UTF8, 5, 5 },
+    { homeludaf_color, TEXT_OF(" "), HOMELUDAF_UNEXPECTED_END, 1, 1 },
+    { homeludaf_color, TEXT_OF("rgb(1,"), HOMELUDAF_UNEXPECTED_END, 6, 6 },
+    { homeludaf_color, TEXT_OF("#12345"), HOMELUDAF_INVALID_VALUE, 6, 6 },
+    { homeludaf_color, TEXT_OF("foo)"), HOMELUDAF_INVALID_VALUE, 3, 3 },
+    { homeludaf_color, TEXT_OF(")"), HOMELUDAF_INVALID_VALUE, 0, 0 },
+    { homeludaf_iri, TEXT_OF("#"), HOMELUDAF_INVALID_VALUE, 1, 1 },
+    { homeludaf_func_iri, TEXT_OF("url('#  ')"), HOMELUDAF_INVALID_VALUE, 8, 8 },
+    { homeludaf_func_iri, TEXT_OF("url(#a'b)"), HOMELUDAF_INVALID_VALUE, 8, 8 },
+    { homeludaf_color, TEXT_OF("red blue"), HOMELUDAF_UNEXPECTED_DATA, 4, 8 },
+    { homeludaf_angle, TEXT_OF("90deg)"), HOMELUDAF_UNEXPECTED_DATA, 5, 6 },
+    { homeludaf_color, TEXT_OF("rgb[1"), HOMELUDAF_INVALID_CHAR, 3, 4 },
+    { homeludaf_color, TEXT_OF("rgb\xc3\xa9"), HOMELUDAF_INVALID_CHAR, 3, 4 },
+    { homeludaf_func_iri, TEXT_OF(" src(#a)"), HOMELUDAF_INVALID_STRING, 1, 5 },
+    { homeludaf_func_iri, TEXT_OF("\xc3\xa9#a"), HOMELUDAF_INVALID_STRING, 0, 4 },
+    { homeludaf_color, TEXT_OF("rgb(1,2, x)"), HOMELUDAF_INVALID_NUMBER, 9, 9 },
+    { homeludaf_color, TEXT_OF("rgb(1, "), HOMELUDAF_NUMBER_ENDED, 7, 7 },
+    { homeludaf_length, TEXT_OF("1."), HOMELUDAF_NUMBER_OUTSIDE_DOMAIN, 0, 2 },
+    { homeludaf_length, TEXT_OF(" -x"), HOMELUDAF_NUMBER_OUTSIDE_DOMAIN, 1, 2 },
+    { homeludaf_length, TEXT_OF("1e+m"), HOMELUDAF_NUMBER_OUTSIDE_DOMAIN, 0, 3 },
+    { homeludaf_length, TEXT_OF(" 9007199254740992px"), HOMELUDAF_NUMBER_TOO_LARGE, 1, 17 },
+    { homeludaf_length, TEXT_OF(" 1e23px"), HOMELUDAF_NUMBER_SCALE, 1, 5 },
+    /* What a paint swallows is told where it was met. */
+    { homeludaf_paint, TEXT_OF(""), HOMELUDAF_INVALID_VALUE, 0, 0 },
+    { homeludaf_paint, TEXT_OF(" x"), HOMELUDAF_INVALID_VALUE, 1, 1 },
+    { homeludaf_paint, TEXT_OF(" red)"), HOMELUDAF_INVALID_VALUE, 3, 3 },
+    { homeludaf_paint, TEXT_OF("rgb( x"), HOMELUDAF_INVALID_VALUE, 5, 5 },
+    { homeludaf_paint, TEXT_OF("url(x)"), HOMELUDAF_INVALID_VALUE, 4, 4 },
+    /* What it does not counts from the trimmed text, or from the fallback. */
+    { homeludaf_paint, TEXT_OF("\xc2\xa0rgb(1e23,0,0)"), HOMELUDAF_NUMBER_SCALE, 4, 8 },
+    { homeludaf_paint, TEXT_OF(" url(#a) red)"), HOMELUDAF_UNEXPECTED_DATA, 3, 4 },
+    { homeludaf_paint, TEXT_OF("url(#a) rgb(1,2.,3)"), HOMELUDAF_NUMBER_OUTSIDE_DOMAIN, 6, 8 },
+    { homeludaf_paint, TEXT_OF("url(#a) #12345"), HOMELUDAF_INVALID_VALUE, 6, 6 },
+};
+
+static void whole_stretches(void)
+{
+    for (size_t i = 0; i < COUNT(whole_told); i++) {
+        struct homeludaf_answer a;
+        memset(&a, 0xff, sizeof a);
+        whole_told[i].call((const uint8_t *)whole_told[i].text.at, whole_told[i].text.length, &a);
+        show("stretch", &a);
+        expect(whole_told[i].text.at, tells(&a, whole_told[i].code, whole_told[i].from, whole_told[i].to) && unused(&a, a.code == HOMELUDAF_OK ? 8 : 0));
+    }
+}
+
+/* The same of steps of lists: places count from the text's start, wherever a step begins. */
+static const struct {
+    next_call *call;
+    struct text text;
+    size_t place;
+    uint64_t code, from, to;
+} step_told[] = {
+    { homeludaf_length_next, TEXT_OF("1 2px"), 2, HOMELUDAF_OK, 0, 0 },
+    { homeludaf_length_next, TEXT_OF("1 2px"), 5, HOMELUDAF_OK, 0, 0 },
+    { homeludaf_length_next, TEXT_OF("1"), 2, HOMELUDAF_BAD_LIST_PLACE, 0, 0 },
+    { homeludaf_length_next, TEXT_OF("1 2 x"), 4, HOMELUDAF_INVALID_NUMBER, 4, 4 },
+    { homeludaf_filter_next, TEXT_OF("sepia() blur()"), 7, HOMELUDAF_OK, 0, 0 },
+    { homeludaf_filter_next, TEXT_OF("none"), 0, HOMELUDAF_OK, 0, 0 },
+    { homeludaf_filter_next, TEXT_OF("blur()\xc3\xa9"), 7, HOMELUDAF_BAD_LIST_PLACE, 0, 0 },
+    { homeludaf_filter_next, TEXT_OF("none x"), 0, HOMELUDAF_INVALID_VALUE, 5, 5 },
+    { homeludaf_filter_next, TEXT_OF("foo() blur()"), 0, HOMELUDAF_UNEXPECTED_DATA, 0, 12 },
+    { homeludaf_filter_next, TEXT_OF("blur() foo()"), 6, HOMELUDAF_UNEXPECTED_DATA, 7, 12 },
+    { homeludaf_filter_next, TEXT_OF("blur(50%)"), 0, HOMELUDAF_PERCENTAGE_VALUE, 0, 8 },
+    { homeludaf_filter_next, TEXT_OF("sepia() blur(-1px)"), 7, HOMELUDAF_NEGATIVE_VALUE, 8, 17 },
+    { homeludaf_filter_next, TEXT_OF("hue-rotate(1)"), 0, HOMELUDAF_INVALID_ANGLE, 0, 12 },
+    { homeludaf_filter_next, TEXT_OF("drop-shadow( )"), 0, HOMELUDAF_MISSING_SHADOW_OFFSET, 0, 13 },
+    { homeludaf_filter_next, TEXT_OF("blur()url(#)"), 6, HOMELUDAF_INVALID_URL, 6, 11 },
+};
+
+static void step_stretches(void)
+{
+    for (size_t i = 0; i < COUNT(step_told); i++) {
+        struct homeludaf_answer a;
+        memset(&a, 0xff, sizeof a);
+        step_told[i].call((const uint8_t *)step_told[i].text.at, step_told[i].text.length, step_told[i].place, &a);
+        show("step's stretch", &a);
+        expect(step_told[i].text.at, tells(&a, step_told[i].code, step_told[i].from, step_told[i].to) && unused(&a, a.code == HOMELUDAF_OK ? 3 : 0));
+    }
+}
+
+static void other_stretches(void)
+{
+    static const char wide[4097];
+    struct homeludaf_answer a;
+
+    memset(&a, 0xff, sizeof a);
+    homeludaf_paint((const uint8_t *)wide, sizeof wide, &a);
+    expect("a text too long, stretch", tells(&a, HOMELUDAF_TEXT_TOO_LONG, 0, 0) && unused(&a, 0));
+
+    memset(&a, 0xff, sizeof a);
+    homeludaf_inherited(TEXT(" red"), TEXT("x"), &a);
+    expect("inherited, stretch", tells(&a, HOMELUDAF_OK, 0, 0) && unused(&a, 3));
+
+    memset(&a, 0xff, sizeof a);
+    homeludaf_inherited(TEXT("inherit"), TEXT("  url(#a) rgb(1,2,x)"), &a);
+    show("the parent's stretch", &a);
+    expect("the parent's stretch", tells(&a, HOMELUDAF_INVALID_NUMBER, 8, 8) && a.result.inherited.whose == HOMELUDAF_WHOSE_PARENT && unused(&a, 1));
+}
+
 static void packed_numbers(void)
 {
     struct homeludaf_answer a;
@@ -217,14 +350,14 @@ static void set_back(void)
 
     SET_BACK(homeludaf_hex, 9, 17, 34, 51, 128, true);
     show("hex", &a);
-    expect("hex", a.code == HOMELUDAF_OK && a.result.written == 9 && a.result.entries[1] == 0 && memcmp(lent, "#11223380\xa5\xa5\xa5", 12) == 0);
+    expect("hex", tells(&a, HOMELUDAF_OK, 0, 0) && a.result.written == 9 && unused(&a, 1) && memcmp(lent, "#11223380\xa5\xa5\xa5", 12) == 0);
 
     SET_BACK(homeludaf_hex, 12, 17, 34, 51, 255, true);
     expect("short hex", a.result.written == 4 && memcmp(lent, "#123\xa5\xa5\xa5\xa5\xa5\xa5\xa5\xa5", 12) == 0);
 
     SET_BACK(homeludaf_hex, 6, 17, 34, 51, 255, false);
     show("hex refused", &a);
-    expect("hex refused", a.code == HOMELUDAF_BUFFER_TOO_SHORT && a.position == 0 && a.result.written == 0 && lent[0] == 0xa5);
+    expect("hex refused", tells(&a, HOMELUDAF_BUFFER_TOO_SHORT, 0, 0) && a.position == 0 && unused(&a, 0) && lent[0] == 0xa5);
 
     SET_BACK(homeludaf_keyword, 4, 0, 255, 255, 255);
     show("keyword", &a);
@@ -235,7 +368,7 @@ static void set_back(void)
 
     SET_BACK(homeludaf_keyword, 0, 0, 0, 0, 0);
     show("no keyword", &a);
-    expect("no keyword", a.code == HOMELUDAF_NO_KEYWORD && a.result.written == 0 && lent[0] == 0xa5);
+    expect("no keyword", tells(&a, HOMELUDAF_NO_KEYWORD, 0, 0) && unused(&a, 0) && lent[0] == 0xa5);
 }
 
 static void length_steps(void)
@@ -303,6 +436,9 @@ int main(void)
     whole_colors();
     other_whole_texts();
     number_troubles();
+    whole_stretches();
+    step_stretches();
+    other_stretches();
     packed_numbers();
     set_back();
     length_steps();

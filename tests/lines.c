@@ -1,7 +1,7 @@
 /* Answers cases over the archive, by the line protocol of the runs (docs/RUNS.md): one case a line in, one answer a line out.
  *
  *     lines base        the cases of the program `replay`, with the same answers: 9 for 22, 10 for 23 and 24
- *     lines             these with every refusal's own number, and the writers of colours (document 02)
+ *     lines             these with every refusal's own number and its stretch, and the writers of colours (document 02)
  *
  * A case is a call and its operands, one space between: a text is its bytes, two lower-case hex digits each, `-` for none; a number is decimal.
  * A line that is no case gets the answer `?` alone. */
@@ -114,7 +114,7 @@ static uint64_t told_number(uint64_t code)
     }
 }
 
-/* What every answer begins with: the refusal, whose part lies in `text`. */
+/* What every answer of a reader begins with: the refusal, whose part lies in `text`. */
 static void put_refusal(const struct homeludaf_answer *a, struct bytes text)
 {
     printf("%" PRIu64, told_number(a->code));
@@ -123,6 +123,10 @@ static void put_refusal(const struct homeludaf_answer *a, struct bytes text)
     put_number(a->found);
     put_number(a->wanted);
     put_part_bytes(text, a->part);
+    if (!base) {
+        put_number(a->from);
+        put_number(a->to);
+    }
 }
 
 static void put_step(const struct homeludaf_answer *a)
