@@ -82,6 +82,7 @@ impl Color {
     /// let refusal = Color::read("rgba(0,0,0,50%)").unwrap_err();
     /// assert_eq!((refusal.number, refusal.position), (7, 14));
     /// assert_eq!((refusal.found, refusal.wanted), (b'%', b')'));
+    /// assert_eq!(refusal.stretch(), 13..14);
     /// ```
     #[inline]
     pub fn read(text: &str) -> Result<Self, Refusal> {

@@ -58,7 +58,8 @@ pub enum Error {
 impl Error {
     /// The refusal's number and position, and the bytes found and wanted of a 7.
     ///
-    /// An error keeps no more of a refusal: 22 comes as 9, and the part of an 8 is empty.
+    /// An error keeps no more of a refusal: 22 comes as 9, the part of an 8 is empty, and every stretch
+    /// is `0..0`.
     pub fn refusal(&self) -> Refusal {
         match *self {
             Error::UnexpectedEndOfStream => Refusal::at(4, 0),

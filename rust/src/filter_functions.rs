@@ -200,7 +200,7 @@ impl<'a> FilterValueListParser<'a> {
     /// let mut list = FilterValueListParser::read("url(#a) blur(1e23)");
     /// assert_eq!(list.next(), Some(Ok(FilterValue::Url("a"))));
     /// let refusal = list.next().unwrap().unwrap_err();
-    /// assert_eq!((refusal.number, refusal.position), (24, 14));
+    /// assert_eq!((refusal.number, refusal.position, refusal.stretch()), (24, 14, 13..17));
     /// assert_eq!(list.next(), None);
     /// ```
     #[inline]

@@ -12,14 +12,15 @@
 //! ```
 //!
 //! What svgtypes lacks: `read`, beside each type's `from_str` and each list's `from`, which gives the
-//! whole [`Refusal`] in the place of an error, and shows it in a sentence; and a colour as text, by
-//! [`Color::hex`], [`Color::hex_short`] and [`Color::keyword`].
+//! whole [`Refusal`] in the place of an error, with the stretch of the text that is refused, and shows
+//! it in a sentence; and a colour as text, by [`Color::hex`], [`Color::hex_short`] and
+//! [`Color::keyword`].
 //!
 //! ```
 //! use homeludaf::Color;
 //!
 //! let refusal = Color::read("rgb(1e23,0,0)").unwrap_err();
-//! assert_eq!((refusal.number, refusal.position), (24, 5));
+//! assert_eq!((refusal.number, refusal.position, refusal.stretch()), (24, 5, 4..8));
 //! assert_eq!(refusal.to_string(), "the number at character 5 has a scale out of range");
 //! ```
 //!

@@ -74,7 +74,8 @@ impl<'a> Paint<'a> {
 
     /// Parses as `from_str` does; a refusal comes whole.
     ///
-    /// Of a plain colour's refusals a paint tells those of numbers outside the domain; any other is a 5.
+    /// Of a plain colour's refusals a paint tells those of numbers outside the domain; any other is a 5,
+    /// whose stretch is empty at the place where the colour was refused.
     ///
     /// ```
     /// use homeludaf::Paint;
@@ -83,6 +84,7 @@ impl<'a> Paint<'a> {
     /// for (text, number) in [("rgb(", 5), ("rgb(1e23,0,0)", 24), ("url(#a) rgb(", 22)] {
     ///     assert_eq!(Paint::read(text).unwrap_err().number, number);
     /// }
+    /// assert_eq!(Paint::read(" red)").unwrap_err().stretch(), 3..3);
     /// ```
     #[inline]
     pub fn read(text: &'a str) -> Result<Self, Refusal> {

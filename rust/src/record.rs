@@ -52,6 +52,11 @@ impl Record {
         self.part(5, text)
     }
 
+    /// Where the refused stretch starts, and where it ends.
+    pub(crate) fn stretch(&self) -> (usize, usize) {
+        (self.0[21] as usize, self.0[22] as usize)
+    }
+
     /// Of a list's step: whether it is a value. Else it is the list's end or a refusal.
     #[inline]
     pub(crate) fn is_value(&self) -> bool {

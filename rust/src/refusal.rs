@@ -1,6 +1,7 @@
 //! Refusals: why a text is not read, whole.
 
 use std::fmt;
+use std::ops::Range;
 
 use crate::record::Record;
 
@@ -9,37 +10,39 @@ pub(crate) const LINK_START: &str = "url(";
 
 /// Why a text is not read: the whole record of the refusal, which every type's `read` gives.
 ///
-/// | Number | Given when |
-/// |---|---|
-/// | 1 | the text has over 4,096 bytes |
-/// | 4 | the text ends too early: [`Error::UnexpectedEndOfStream`] |
-/// | 5 | the text is no such value: [`Error::InvalidValue`] |
-/// | 6 | something stands after the value: [`Error::UnexpectedData`] |
-/// | 7 | another byte was wanted: [`Error::InvalidChar`] |
-/// | 8 | `url(` was wanted: [`Error::InvalidString`] |
-/// | 9 | no number starts here, but another byte: [`Error::InvalidNumber`] |
-/// | 10 | a number does not keep to the form, as `1.` and `-` |
-/// | 11 | [`FilterValueListParserError::PercentageValue`] |
-/// | 12 | [`FilterValueListParserError::NegativeValue`] |
-/// | 13 | [`FilterValueListParserError::InvalidAngle`] |
-/// | 14 | [`FilterValueListParserError::MissingDropShadowOffset`] |
-/// | 15 | [`FilterValueListParserError::InvalidUrl`] |
-/// | 22 | no number starts here, since the text has ended: [`Error::InvalidNumber`], too |
-/// | 23 | a number's digits, joined, make more than 9,007,199,254,740,991 |
-/// | 24 | a number's scale, its exponent less its fraction digits, lies outside -22 to 22 |
+/// | Number | Given when | Stretch |
+/// |---|---|---|
+/// | 1 | the text has over 4,096 bytes | none, `0..0` |
+/// | 4 | the text ends too early: [`Error::UnexpectedEndOfStream`] | empty, at the end |
+/// | 5 | the text is no such value: [`Error::InvalidValue`] | empty, where reading stopped |
+/// | 6 | something stands after the value: [`Error::UnexpectedData`] | from there to the end |
+/// | 7 | another byte was wanted: [`Error::InvalidChar`] | the one byte found |
+/// | 8 | `url(` was wanted: [`Error::InvalidString`] | the part found |
+/// | 9 | no number starts here, but another byte: [`Error::InvalidNumber`] | empty, here |
+/// | 10 | a number does not keep to the form, as `1.` and `-` | the number, up to the first byte that its form cannot take |
+/// | 11 | [`FilterValueListParserError::PercentageValue`] | from the filter's name to where reading stopped |
+/// | 12 | [`FilterValueListParserError::NegativeValue`] | the same |
+/// | 13 | [`FilterValueListParserError::InvalidAngle`] | the same |
+/// | 14 | [`FilterValueListParserError::MissingDropShadowOffset`] | the same |
+/// | 15 | [`FilterValueListParserError::InvalidUrl`] | the same |
+/// | 22 | no number starts here, since the text has ended: [`Error::InvalidNumber`], too | empty, here |
+/// | 23 | a number's digits, joined, make more than 9,007,199,254,740,991 | the whole number |
+/// | 24 | a number's scale, its exponent less its fraction digits, lies outside -22 to 22 | the whole number |
 ///
 /// 10, 23 and 24 are the numbers outside the domain, which svgtypes has no error for; a number that
 /// has several of these troubles is refused by the first. 2 (not UTF-8) and 3 (a bad list place)
 /// cannot come from a `&str` and from a list's own places.
 ///
-/// It shows itself in a sentence:
+/// It shows itself in a sentence, and tells the [stretch](Refusal::stretch) of the text that is refused:
 ///
 /// ```
 /// use homeludaf::Color;
 ///
-/// let refusal = Color::read("rgb(1, ").unwrap_err();
-/// assert_eq!((refusal.number, refusal.position), (22, 8));
-/// assert_eq!(refusal.to_string(), "a number is wanted at character 8, where the text has ended");
+/// let text = "rgb(1.,0,0)";
+/// let refusal = Color::read(text).unwrap_err();
+/// assert_eq!((refusal.number, refusal.position), (10, 5));
+/// assert_eq!(refusal.to_string(), "the number at character 5 does not keep to the form");
+/// assert_eq!(text.get(refusal.stretch()), Some("1."));
 /// ```
 ///
 /// [`Error::UnexpectedEndOfStream`]: crate::Error::UnexpectedEndOfStream
@@ -71,6 +74,10 @@ pub struct Refusal {
     pub wanted: u8,
     /// What was found in the place of `url(`, of an 8; else empty.
     pub part: Part,
+    /// The byte, counted from 0, at which the refused stretch starts. See [`Refusal::stretch`].
+    pub from: usize,
+    /// The byte before which it ends.
+    pub to: usize,
 }
 
 /// A part of a text: where it starts and how long it is, in bytes.
@@ -107,6 +114,8 @@ impl Refusal {
             found: 0,
             wanted: 0,
             part: Part::default(),
+            from: 0,
+            to: 0,
         }
     }
 
@@ -122,12 +131,56 @@ impl Refusal {
     /// The refusal of a refused record. The text is for errors alone, which keep parts of it.
     pub(crate) fn of(record: &Record, _: &str) -> Self {
         let (start, len) = record.found_place();
+        let (from, to) = record.stretch();
         Refusal {
             place: record.place(),
             part: Part { start, len },
+            from,
+            to,
             ..Refusal::at(record.number() as u32, record.position())
         }
         .with_bytes(record.found_and_wanted())
+    }
+
+    /// The refused piece of the text, as a range of bytes; the table above says which it is.
+    ///
+    /// ```
+    /// use homeludaf::FilterValueListParser;
+    ///
+    /// let text = "sepia() blur(50%)";
+    /// let refusal = FilterValueListParser::read(text).nth(1).unwrap().unwrap_err();
+    /// assert_eq!((refusal.number, refusal.stretch()), (11, 8..16));
+    /// assert_eq!(text.get(refusal.stretch()), Some("blur(50%"));
+    /// ```
+    ///
+    /// Of a paint it counts bytes from where its position counts characters: from what trimming leaves,
+    /// or from the fallback.
+    ///
+    /// ```
+    /// use homeludaf::Paint;
+    ///
+    /// let refusal = Paint::read(" url(#a) red)").unwrap_err();
+    /// assert_eq!((refusal.position, refusal.stretch()), (4, 3..4));
+    /// assert_eq!("red)".get(refusal.stretch()), Some(")"));
+    /// ```
+    ///
+    /// A 7's is one byte, which may be the first of a longer character and then is no `str`: take it
+    /// from the text's bytes.
+    ///
+    /// ```
+    /// use homeludaf::IRI;
+    ///
+    /// let refusal = IRI::read("é").unwrap_err();
+    /// assert_eq!((refusal.number, refusal.stretch()), (7, 0..1));
+    /// assert_eq!("é".get(refusal.stretch()), None);
+    /// assert_eq!("é".as_bytes()[refusal.stretch()], [refusal.found]);
+    /// ```
+    ///
+    /// It is `0..0` for a 1, and for what an error keeps of a refusal ([`Error::refusal`]).
+    ///
+    /// [`Error::refusal`]: crate::Error::refusal
+    pub fn stretch(&self) -> Range<usize> {
+        self.from..self.to
     }
 
     /// Whether it is a number outside the domain: 10, 23 or 24.
@@ -193,6 +246,22 @@ impl std::error::Error for Refusal {}
 #[cfg(test)]
 mod tests {
     use super::{Part, Refusal};
+    use crate::record::{Record, ENTRIES};
+
+    /// Each entry of a record has its own number here.
+    #[test]
+    fn a_refusal_has_its_entries() {
+        let record = Record(std::array::from_fn::<u64, ENTRIES, _>(|i| 10 + i as u64));
+        let refusal = Refusal::of(&record, "");
+        assert_eq!(
+            (refusal.number, refusal.position, refusal.place),
+            (10, 11, 12)
+        );
+        assert_eq!((refusal.found, refusal.wanted), (13, 14));
+        assert_eq!((refusal.part.start, refusal.part.len), (15, 16));
+        assert_eq!((refusal.from, refusal.to), (31, 32));
+        assert_eq!(refusal.stretch(), 31..32);
+    }
 
     #[test]
     fn every_number_has_its_sentence() {

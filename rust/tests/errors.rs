@@ -78,7 +78,16 @@ fn what_svgtypes_does_not_refuse() {
     assert_eq!(filter_error("blur(1e23)").refusal().number, 24);
 }
 
-/// An error has no room for more: `read` alone tells a text that has ended from a wrong byte.
+/// An error has no room for more: `read` alone tells a stretch.
+#[test]
+fn errors_keep_no_stretch() {
+    let text = "rgb[1,2,3)";
+    assert_eq!(Color::from_str(text).unwrap_err().refusal().stretch(), 0..0);
+    assert_eq!(filter_error("blur(5%)").refusal().stretch(), 0..0);
+    assert_eq!(Color::read(text).unwrap_err().stretch(), 3..4);
+}
+
+/// Nor for this: `read` alone tells a text that has ended from a wrong byte.
 #[test]
 fn errors_do_not_tell_22_from_9() {
     let e = Color::from_str("rgb(1, ").unwrap_err();

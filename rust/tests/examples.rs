@@ -54,9 +54,10 @@ fn a_wanted_byte_is_told() {
     let text = "rgba(0,0,0,50%)";
     let e = text.parse::<Color>().unwrap_err();
     assert_eq!(e, Error::InvalidChar(vec![b'%', b')'], 14));
-    let refusal = Color::read(text).unwrap_err();
-    assert_eq!(refusal, e.refusal());
-    assert_eq!((refusal.found, refusal.wanted), (b'%', b')'));
+    for refusal in [Color::read(text).unwrap_err(), e.refusal()] {
+        assert_eq!((refusal.found, refusal.wanted), (b'%', b')'));
+        assert_eq!(told(refusal), (7, 14));
+    }
 }
 
 #[test]
