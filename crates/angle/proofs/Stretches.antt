@@ -51,7 +51,7 @@ whole-lies s e q = let w : Refuses (length s) (parseWhole s) = whole-refuses s i
 
 -- of a refusal, if there is one
 abbrev Answers : ℕ → AngleAnswer → Type 0
-Answers n (O.Value a) = T true
+Answers n (O.Value a x) = T true
 Answers n (O.Refused e) = Inside n e
 
 -- THEOREM (document 02, P2). A refusal's stretch starts and ends in the lent text, and not before it starts
@@ -61,6 +61,6 @@ stretch-inside s e q =
     let w : Answers (length s) (fromStr s) = text-edge (Answers (length s)) s O.Refused _ (λ e h. h) (λ h. go (parseWhole s) (whole-refuses s)) in
     rw q at w
   where
-    go : (x : AngleRead) → Refuses (length s) x → Answers (length s) (thenAngle (λ e. O.Refused (refusalOf s e)) x (λ a n p. O.Value a))
+    go : (x : AngleRead) → Refuses (length s) x → Answers (length s) (thenAngle (λ e. O.Refused (refusalOf s e)) x (λ a n p. O.Value a n))
     go (R.Value a n p) v = tt
     go (R.Refused f) v = refusal-inside s (v .lies)

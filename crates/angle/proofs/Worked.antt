@@ -19,7 +19,7 @@ use Rattle.angle.specs.declared.AngleRead.the-variants as R
 use Rattle.angle.specs.declared.AngleAnswer.the-variants as O
 
 -- `2rad` is 2 radians
-two-radians : fromStr (ascii "2rad") ≡ O.Value (record { number = fin false 1 (pos 1); unit = U.Radians })
+two-radians : fromStr (ascii "2rad") ≡ O.Value (record { number = fin false 1 (pos 1); unit = U.Radians }) (record { value = fin false 1 (pos 1); whole = true; end = place 1 })
 unfolding fromStr parseWhole parseAngle parseUnit startsWith parseNumber numberFrom finished scaled valueOf scaleOf exponentAt exponentFrom mantissaAt mantissaDot afterSign value scan run within bind powerOf powerBits mul div neg ofInt ofBits admitText admitUtf8 utf8Of walk charLen lenAt rowOf keeps
 two-radians = refl
 

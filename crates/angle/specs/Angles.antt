@@ -56,4 +56,4 @@ parseWhole s =
 
 -- the same at the edge: "Order: 1, 2, 3, then the first that the reading below meets."
 unfoldable pub fromStr : List ℕ → AngleAnswer
-fromStr s = thenAdmitted O.Refused (admitText s) (thenAngle (λ e. O.Refused (refusalOf s e)) (parseWhole s) (λ a n p. O.Value a))
+fromStr s = thenAdmitted O.Refused (admitText s) (thenAngle (λ e. O.Refused (refusalOf s e)) (parseWhole s) (λ a n p. O.Value a n))

@@ -1,4 +1,7 @@
 -- Document 01's record of an answer: the number, and "a result of zeros" for a refusal.
+use mathlib.Core.Bool.{Bool, false}
+use Rattle.bytes.specs.Moves.{place}
+use Rattle.bytes.specs.declared.Place.{Place}
 use Rattle.stream.specs.Refusals.{bareRefusal}
 use Rattle.stream.specs.declared.Refusal.{Refusal}
 use Rattle.floats.specs.Floats.{d0}
@@ -11,11 +14,13 @@ use Rattle.angle.specs.declared.AngleAnswer.the-variants as O
 abbrev pub zeroAngle : Angle
 zeroAngle = record { number = d0; unit = U.Degrees }
 
--- an angle: number 0 of the refusal is a value
+-- An angle: number 0 of the refusal is a value. Document 02, P3: "A number's answer must also say whether a dot or an exponent was written, and where it ended": `whole` where neither was
 pub record Paper : Type 0 where
   pub refusal : Refusal
   pub result : Angle
+  pub whole : Bool
+  pub end : Place
 
 unfoldable pub paper : AngleAnswer → Paper
-paper (O.Value a) = record { refusal = bareRefusal 0; result = a }
-paper (O.Refused e) = record { refusal = e; result = zeroAngle }
+paper (O.Value a n) = record { refusal = bareRefusal 0; result = a; whole = n .whole; end = n .end }
+paper (O.Refused e) = record { refusal = e; result = zeroAngle; whole = false; end = place 0 }

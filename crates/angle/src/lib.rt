@@ -50,8 +50,9 @@ pub enum AngleRead {
     Refused(Fault),
 }
 
+// The angle and its number as it was written, or why there is none.
 pub enum AngleAnswer {
-    Value(Angle),
+    Value(Angle, Number),
     Refused(Refusal),
 }
 
@@ -64,7 +65,7 @@ pub fn from_str(text: &[u8]) -> AngleAnswer
         Admission::Refused(refusal) => AngleAnswer::Refused(refusal),
         Admission::Admitted => match parse_whole(text) {
             AngleRead::Refused(e) => AngleAnswer::Refused(stream::refusal_of(text, e)),
-            AngleRead::Value(a, _, _) => AngleAnswer::Value(a),
+            AngleRead::Value(a, n, _) => AngleAnswer::Value(a, n),
         },
     }
 }

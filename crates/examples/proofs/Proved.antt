@@ -95,6 +95,10 @@ shut =
       to-the-end = refl;
       stopped-color = refl;
       stopped-link = refl;
+      before-the-unit = refl;
+      after-spaces = refl;
+      dotted = refl;
+      scaled = refl;
       ill-formed = refl;
       bad-place = refl;
     }

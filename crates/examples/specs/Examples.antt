@@ -1,5 +1,6 @@
 -- Document 01, "Proofs off the press": the examples that are marked *, of what the outside calls answer.
 use Prim.Native.Nat.{ℕ}
+use mathlib.Core.Bool.{true}
 use mathlib.Core.Path.{_≡_}
 use lib.Ieee.{Float, binary64, ofBits}
 use Rattle.bytes.specs.Moves.{place}
@@ -54,7 +55,7 @@ pub record Examples : Type 0 where
   -- "`url(#a) red)` as paint is 6 at 4"
   pub fallback : paints.fromStr (ascii "url(#a) red)") ≡ P.Refused (refusal 6 4 0 0 3 4)
   -- "`1em` is 1 em"
-  pub one-em : lengths.fromStr (ascii "1em") ≡ L.Value (record { number = one; unit = U.Em })
+  pub one-em : lengths.fromStr (ascii "1em") ≡ L.Value (record { number = one; unit = U.Em }) (record { value = one; whole = true; end = place 1 })
   -- "`blur(50%)` is 11 at 6": the list is at its end, 9
   pub percentage : nextFilter (ascii "blur(50%)") 0 ≡ F.Refused (refusal 11 6 0 0 0 8) (place 9)
   -- "`hue-rotate(1)` is 13 at 12"

@@ -26,7 +26,8 @@ use Rattle.filter_functions.specs.declared.FilterStep.the-variants as F
 use Rattle.set_back.specs.Answers.{hexAnswer, keywordAnswer}
 use Rattle.set_back.specs.Texts.{hexText}
 use Rattle.set_back.specs.declared.SetBack.the-variants as H
-use Rattle.examples.specs.Examples.{refusal}
+use Rattle.length.specs.declared.LengthUnit.the-variants as U
+use Rattle.examples.specs.Examples.{refusal, plain, two}
 
 pub record Shut : Type 0 where
   -- an alpha is taken times 255, and not times 1
@@ -92,5 +93,11 @@ pub record Shut : Type 0 where
   pub stopped-link : paints.fromStr (ascii "url(x)") ≡ P.Refused (refusal 5 0 0 0 4 4)
   -- a text that is not UTF-8 is refused at its place in the lent text, in a paint too
   pub ill-formed : paints.fromStr (32 ∷ 0xff ∷ []) ≡ P.Refused (illFormed (place 1))
+  -- a number ends before its unit, and a percentage's before the `%`
+  pub before-the-unit : lengths.fromStr (ascii "2%") ≡ L.Value (record { number = two; unit = U.Percent }) (record { value = two; whole = true; end = place 1 })
+  pub after-spaces : nextLength (ascii "1, 2px") 2 ≡ S.Value (record { number = two; unit = U.Px }) (record { value = two; whole = true; end = place 4 }) (place 6)
+  -- a dot or an exponent is told, though the value is whole
+  pub dotted : lengths.fromStr (ascii "2.0") ≡ L.Value (plain two) (record { value = two; whole = false; end = place 3 })
+  pub scaled : lengths.fromStr (ascii "2e0px") ≡ L.Value (record { number = two; unit = U.Px }) (record { value = two; whole = false; end = place 3 })
   -- 3 tells no stretch
   pub bad-place : nextFilter (0xc3 ∷ 0xa9 ∷ []) 1 ≡ F.Refused (bareRefusal 3) (place 1)

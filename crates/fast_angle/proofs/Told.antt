@@ -36,11 +36,11 @@ module _ (s : List ℕ) {a : Admission} {r : ToldNumber} (p : a ≡ admitText s)
       let d : drop i s ≡ [] = drop-of-length-le s {i = i} (omega arith) in
       simp d
 
-  pub degrees-told : r .end .0 ≡ length s → O.Value (record { number = r .value; unit = U.Degrees }) ≡ fromStr s
+  pub degrees-told : r .end .0 ≡ length s → O.Value (record { number = r .value; unit = U.Degrees }) (record { value = r .value; whole = r .whole; end = r .end }) ≡ fromStr s
   unfolding fromStr parseWhole parseAngle
   degrees-told l = sym (simp (admitted, read .is, unmarked (r .end .0) l, le-ltb (r .end .0) (length s) (omega arith)))
 
-  pub unit-told : {w : AngleUnitRead} {u : AngleUnit} {n : Place} → w ≡ parseUnit s (r .end .0) → w ≡ W.Found u n → n .0 ≡ length s → O.Value (record { number = r .value; unit = u }) ≡ fromStr s
+  pub unit-told : {w : AngleUnitRead} {u : AngleUnit} {n : Place} → w ≡ parseUnit s (r .end .0) → w ≡ W.Found u n → n .0 ≡ length s → O.Value (record { number = r .value; unit = u }) (record { value = r .value; whole = r .whole; end = r .end }) ≡ fromStr s
   unfolding fromStr parseWhole parseAngle
   unit-told {n} f g l = sym (simp (admitted, read .is, sym f ∙ g, le-ltb (n .0) (length s) (omega arith)))
 

@@ -6,6 +6,7 @@ use angle::AngleAnswer;
 use angle::AngleUnit;
 use angle::AngleUnitRead;
 use bytes::Place;
+use numbers::Number;
 use stream::Admission;
 
 pub fn from_str(text: &[u8]) -> AngleAnswer
@@ -18,14 +19,19 @@ pub fn from_str(text: &[u8]) -> AngleAnswer
             let end = n.end;
             let e = end.0;
             let number = n.value;
+            let written = Number {
+                value: number,
+                whole: n.whole,
+                end,
+            };
             if 0 < e {
                 if e == text.len() {
                     let unit = AngleUnit::Degrees;
-                    return AngleAnswer::Value(Angle { number, unit });
+                    return AngleAnswer::Value(Angle { number, unit }, written);
                 }
                 if let AngleUnitRead::Found(unit, next) = angle::parse_unit(text, end) {
                     if next.0 == text.len() {
-                        return AngleAnswer::Value(Angle { number, unit });
+                        return AngleAnswer::Value(Angle { number, unit }, written);
                     }
                 }
             }

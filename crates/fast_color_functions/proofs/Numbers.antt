@@ -59,17 +59,17 @@ module _ (s : List ℕ) (at : ℕ) (n : ToldNumber) (q : n ≡ toldNumber (parse
         let t = number-known s at _ (n .end) (read-here h .is) in
         lt-leb (length s) at (omega (arith, t .least, t .inside))
 
-    pub item-some : {e : Place} → e .0 ≡ afterNumber s (n .end .0) → record { value = n .value; end = e } ≡ toldNumber (parseListNumber s at)
+    pub item-some : {e : Place} → e .0 ≡ afterNumber s (n .end .0) → record { value = n .value; whole = n .whole; end = e } ≡ toldNumber (parseListNumber s at)
     unfolding parseListNumber afterItem bind toldNumber afterNumber
     item-some g = simp (before-end, read-here h .is, ← g)
 
     -- t is what the test for `%` answered
     module _ {t : Bool} (m : t ≡ isCurrByteEq s (n .end .0) 37) where
-      pub share-marked : t ≡ true → {e : Place} → e .0 ≡ afterNumber s (n .end .0 + 1) → record { value = div binary64 (n .value) hundred; end = e } ≡ toldNumber (parseListNumberOrPercent s at)
+      pub share-marked : t ≡ true → {e : Place} → e .0 ≡ afterNumber s (n .end .0 + 1) → record { value = div binary64 (n .value) hundred; whole = n .whole; end = e } ≡ toldNumber (parseListNumberOrPercent s at)
       unfolding parseListNumberOrPercent parseNumberOrPercent afterItem bind toldNumber afterNumber
       share-marked f g = simp (before-end, read-here h .is, ← m, f, ← g)
 
-      pub share-plain : t ≡ false → {e : Place} → e .0 ≡ afterNumber s (n .end .0) → record { value = n .value; end = e } ≡ toldNumber (parseListNumberOrPercent s at)
+      pub share-plain : t ≡ false → {e : Place} → e .0 ≡ afterNumber s (n .end .0) → record { value = n .value; whole = n .whole; end = e } ≡ toldNumber (parseListNumberOrPercent s at)
       unfolding parseListNumberOrPercent parseNumberOrPercent afterItem bind toldNumber afterNumber
       share-plain f g = simp (before-end, read-here h .is, ← m, f, ← g)
 

@@ -45,7 +45,7 @@ stop-other b c h m n e =
 module _ (s : List ℕ) (at stop : ℕ) where
   -- the digits from i to their end, their value n, and the byte after them, which the flag t told
   pub whole-told-at : {i n : ℕ} {end : Place} {t : Bool} {w : Float} → i ≡ scan isSpace s at → end .0 ≡ scan isDigit s i → n ≡ min cap (value 0 (drop i s)) → isStop stop ≡ true
-      → t ≡ isCurrByteEq s (end .0) stop → (ltb i (end .0) && (ltb n cap && t)) ≡ true → w ≡ valueOf false n false 0 → WholeAt s at stop (record { value = w; end = end })
+      → t ≡ isCurrByteEq s (end .0) stop → (ltb i (end .0) && (ltb n cap && t)) ≡ true → w ≡ valueOf false n false 0 → WholeAt s at stop (record { value = w; whole = true; end = end })
   whole-told-at {i} {n} {end} {t} q d v k c h w =
       let e = end .0 in
       let r = and-second (ltb i e) _ h in

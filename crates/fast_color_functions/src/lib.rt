@@ -99,11 +99,13 @@ fn whole(text: &[u8], at: Place, stop: u8) -> ToldNumber
     if (i < e) & ((n < LIMIT) & bytes::is_curr_byte_eq(text, end, stop)) {
         return ToldNumber {
             value: fast_numbers::whole_value(false, n),
+            whole: true,
             end,
         };
     }
     ToldNumber {
         value: 0.0,
+        whole: false,
         end: Place(0),
     }
 }
@@ -219,6 +221,7 @@ fn item(text: &[u8], at: Place) -> ToldNumber
     }
     ToldNumber {
         value: n.value,
+        whole: n.whole,
         end: after_number(text, end),
     }
 }
@@ -237,11 +240,13 @@ fn share(text: &[u8], at: Place) -> ToldNumber
     if bytes::is_curr_byte_eq(text, end, b'%') {
         return ToldNumber {
             value: n.value / 100.0,
+            whole: n.whole,
             end: after_number(text, Place(i + 1)),
         };
     }
     ToldNumber {
         value: n.value,
+        whole: n.whole,
         end: after_number(text, end),
     }
 }

@@ -1,3 +1,4 @@
+pub mod Plains
 pub mod Names
 pub mod Told
 pub mod Shaded

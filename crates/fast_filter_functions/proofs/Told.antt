@@ -44,8 +44,8 @@ use Rattle.fast_length.specs.Told.{toldLength}
 use Rattle.fast_length.specs.declared.ToldLength.{ToldLength}
 use Rattle.fast_length.proofs.Told as Length
 use Rattle.records.specs.Records.{foundRow, bitsOf, lengthUnit, angleUnit, filterRow}
-use Rattle.records.specs.Inner.{plainNumber}
-use Rattle.records.proofs.Rows.{plain-row}
+use Rattle.fast_filter_functions.specs.Kinds.{plainNumber}
+use Rattle.fast_filter_functions.proofs.Plains.{plain-row}
 use Rattle.fast_filter_functions.specs.Told.{writtenIf, afterBracket, plainWord, opened, isOffset, isRadius}
 use Rattle.fast_filter_functions.proofs.Names.{isName, starts-curr, curr-still, written}
 
@@ -168,7 +168,7 @@ blur-told s at l {t = t} o k e w q g c h b v f =
 -- a number with the `%` after it, which the flag t told
 module _ (s : List ℕ) (at : ℕ) (n : ToldNumber) (q : n ≡ toldNumber (parseNumber s at)) {t : Bool} (c : t ≡ isCurrByteEq s (n .end .0) 37) where
   pub percent-marked : (ltb 0 (n .end .0) && t) ≡ true
-      → _≡_ {A = ToldNumber} (record { value = div binary64 (n .value) hundred; end = place (n .end .0 + 1) }) (toldNumber (parseNumberOrPercent s at))
+      → _≡_ {A = ToldNumber} (record { value = div binary64 (n .value) hundred; whole = n .whole; end = place (n .end .0 + 1) }) (toldNumber (parseNumberOrPercent s at))
   unfolding parseNumberOrPercent toldNumber
   percent-marked h =
       let number = Number.told-read s at n q (ltb-true 0 (n .end .0) (and-first (ltb 0 (n .end .0)) t h)) in
@@ -216,7 +216,7 @@ plain-read s name i f n q h g = go (parseNumberOrPercent s i) refl
     go : (x : NumberRead) → parseNumberOrPercent s i ≡ x → parseGenericColorFunc s name (scan isSpace s i) f ≡ F.Value (plainValue f (n .value)) (n .end)
     go (R.Refused e) k = let z : n .end .0 ≡ 0 = rw (q, k) in absurd (omega arith)
     go (R.Value m p) k =
-        let d : n ≡ record { value = m .value; end = p } = rw k at q in
+        let d : n ≡ record { value = m .value; whole = m .whole; end = p } = rw k at q in
         let j = scan isSpace s i in
         let r : parseNumberOrPercent s j ≡ R.Value m p = percent-still s i ∙ k in
         let t = percent-known s j m p r in

@@ -7,6 +7,7 @@ ghost use lib.ListN.{length, drop};
 ghost use Rattle.bytes.specs.Words.{startsWith};
 ghost use Rattle.numbers.specs.Number.{parseNumberOrPercent};
 ghost use Rattle.fast_numbers.specs.Told.{toldNumber};
+ghost use Rattle.fast_filter_functions.specs.Kinds.{plainNumber};
 ghost use Rattle.fast_filter_functions.specs.Told.{writtenIf, afterBracket, isOffset, isRadius, opened};
 use bytes::Place;
 use fast_length::ToldLength;
@@ -109,6 +110,7 @@ fn number_or_percent(text: &[u8], at: Place) -> ToldNumber
     if (0 < end) & bytes::is_curr_byte_eq(text, n.end, b'%') {
         return ToldNumber {
             value: n.value / 100.0,
+            whole: n.whole,
             end: Place(end + 1),
         };
     }
@@ -135,9 +137,24 @@ pub fn plain_told(
     let n = number_or_percent(text, Place(i + by));
     let next = after_bracket(text, n.end);
     if (0 < n.end.0) & ((0 < next.0) & !floats::is_sign_negative(n.value)) {
-        let kind = records::plain_number(plain);
+        let kind = plain_number(plain);
         written::two(out, k, next, kind, records::bits_of(n.value));
         return true;
     }
     false
+}
+
+// A plain function's kind.
+fn plain_number(plain: Plain) -> u64
+    ensures { λ r. ⌜ r ≡ plainNumber plain ⌝ }
+{
+    match plain {
+        Plain::Brightness => 3,
+        Plain::Contrast => 4,
+        Plain::Grayscale => 5,
+        Plain::Invert => 7,
+        Plain::Opacity => 8,
+        Plain::Sepia => 9,
+        Plain::Saturate => 10,
+    }
 }

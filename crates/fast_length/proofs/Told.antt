@@ -1,10 +1,12 @@
 -- What a told number tells of a length, and what a told length says to a caller.
 use Prim.Native.Nat.{ℕ, _+_, _-_, _≤_, _<_}
+use mathlib.Core.Bool.{false}
 use mathlib.Core.List.{List}
 use mathlib.Core.Logic.{⊎-elim}
 use mathlib.Core.Path.{_≡_, refl, _∙_}
 use native.Mathlib.Omega.{arith}
 use borrow.Author.Tests.{eq-eqb, ne-eqb}
+use lib.Dec.{eqb}
 use lib.ListN.{length, take, drop}
 use mir.Syntax.{w64}
 use mir.Val.{Fits}
@@ -31,7 +33,7 @@ use Rattle.fast_numbers.specs.Told.{toldNumber}
 use Rattle.fast_numbers.specs.declared.ToldNumber.{ToldNumber}
 use Rattle.fast_numbers.proofs.Told.{told-read, told-unread, told-inside}
 use Rattle.fast_numbers.proofs.Plain.{Plain, plain-trans, number-plain}
-use Rattle.fast_length.specs.Inner.{withUnit}
+use Rattle.fast_length.specs.Inner.{withUnit, writtenNumber}
 use Rattle.fast_length.specs.Told.{noLength, toldLength}
 use Rattle.fast_length.specs.declared.ToldLength.{ToldLength}
 use Rattle.fast_length.proofs.Units.{unit-plain}
@@ -87,6 +89,22 @@ module _ (s t : List ℕ) (at : ℕ) (n : ToldNumber) (k : n ≡ toldNumber (par
       (lt-or-le 0 (n .end .0))
 
 pub ruleset lengths-told = (all-text, number-inside, length-told)
+
+-- and is the plain reader's, with its number as it was written
+pub written-length : (s : List ℕ) (at : ℕ) (n : ToldNumber) (r : ToldLength) → n ≡ toldNumber (parseNumber s at) → r ≡ withUnit s n → 0 < r .next .0
+    → parseLength s at ≡ L.Value (record { number = r .number; unit = r .unit }) (writtenNumber n) (r .next)
+unfolding withUnit parseLength bind
+written-length s at n r k w h =
+    ⊎-elim
+    (λ (l : 0 < n .end .0).
+    let e : eqb (n .end .0) 0 ≡ false = ne-eqb (n .end .0) 0 (λ z. omega arith) in
+    let v = simp e at w in
+    rw (told-read s at n k l .is, v) refl)
+    (λ (l : n .end .0 ≤ 0).
+    let v : r ≡ noLength = simp (eq-eqb (n .end .0) 0 (omega arith)) at w in
+    let z : r .next .0 ≡ 0 = rw v refl in
+    absurd (omega arith))
+    (lt-or-le 0 (n .end .0))
 
 -- the plain reader read it; how its number was written is not told
 pub record Read (s : List ℕ) (at : ℕ) (r : ToldLength) : Type 0 where

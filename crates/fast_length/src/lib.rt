@@ -13,13 +13,14 @@ ghost use Rattle.utf8.specs.declared.Utf8.the-variants.{WellFormed};
 ghost use Rattle.length.specs.Lengths.{unitAt, parseLength, fromStr, nextLength};
 ghost use Rattle.records.specs.Records.{lengthStepRecord};
 ghost use Rattle.fast_length.specs.Told.{toldLength};
-ghost use Rattle.fast_length.specs.Inner.{withUnit, noNumberAt};
+ghost use Rattle.fast_length.specs.Inner.{withUnit, writtenNumber, noNumberAt};
 use bytes::Place;
 use fast_numbers::ToldNumber;
 use length::Length;
 use length::LengthAnswer;
 use length::LengthStep;
 use length::LengthUnit;
+use numbers::Number;
 use numbers::NumberRead;
 use stream::Admission;
 use stream::Refusal;
@@ -38,12 +39,13 @@ pub fn from_str(text: &[u8]) -> LengthAnswer
     if 4096 < text.len() {
         return LengthAnswer::Refused(stream::bare_refusal(1));
     }
-    let told = with_unit(text, fast_numbers::number(text, Place(0)));
+    let n = fast_numbers::number(text, Place(0));
+    let told = with_unit(text, n);
     let next = told.next.0;
     if (0 < next) & (text.len() <= next) {
         let unit = told.unit;
         let number = told.number;
-        return LengthAnswer::Value(Length { number, unit });
+        return LengthAnswer::Value(Length { number, unit }, written(n));
     }
     match stream::admit_text(text) {
         Admission::Refused(refusal) => LengthAnswer::Refused(refusal),
@@ -85,6 +87,18 @@ fn with_unit(text: &[u8], n: ToldNumber) -> ToldLength
         number: n.value,
         unit,
         next: Place(next),
+    }
+}
+
+// A told number as it was written.
+fn written(n: ToldNumber) -> Number
+    ensures { λ r. ⌜ r ≡ writtenNumber n ⌝ }
+{
+    let end = n.end;
+    Number {
+        value: n.value,
+        whole: n.whole,
+        end,
     }
 }
 
@@ -180,7 +194,8 @@ fn step(text: &[u8], admission: Admission, place: Place) -> LengthStep
             if end <= i {
                 return LengthStep::End(Place(end));
             }
-            let told = with_unit(text, fast_numbers::number(text, place));
+            let n = fast_numbers::number(text, place);
+            let told = with_unit(text, n);
             let next = told.next.0;
             if next == 0 {
                 return LengthStep::Refused(no_number_at(text, place), Place(end));
@@ -189,7 +204,7 @@ fn step(text: &[u8], admission: Admission, place: Place) -> LengthStep
             let number = told.number;
             let after = bytes::skip_spaces(text, told.next);
             let p = stream::parse_list_separator(text, after);
-            LengthStep::Value(Length { number, unit }, p)
+            LengthStep::Value(Length { number, unit }, written(n), p)
         }
     }
 }

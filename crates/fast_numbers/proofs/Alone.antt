@@ -36,7 +36,7 @@ module _ (s : List ℕ) (at : ℕ) {i e : ℕ} (q : i ≡ scan isSpace s at) (d 
 
   -- b is the byte behind them
   pub digits-alone : {n b : ℕ} {w : Float} → n ≡ min cap (value 0 (drop i s)) → b ≡ getD s e 0 → (b ≡ 46 → ⊥) → (eqb b 101 || eqb b 69) ≡ false → (ltb i e && ltb n cap) ≡ true
-      → w ≡ valueOf false n false 0 → _≡_ {A = ToldNumber} (record { value = w; end = place e }) (toldNumber (parseNumber s at))
+      → w ≡ valueOf false n false 0 → _≡_ {A = ToldNumber} (record { value = w; whole = true; end = place e }) (toldNumber (parseNumber s at))
   digits-alone v p f o t w =
       let long : i < e = ltb-true i e (and-first (ltb i e) _ t) in
       whole-told s at (begun s at (lead-alone long) d v) p f (e-absent s e p o) refl t w

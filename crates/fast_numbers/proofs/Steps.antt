@@ -110,8 +110,8 @@ begins s at =
     (λ e. either (startsNumber (getD s i 0)) (λ f. simp (e, f)) (λ f. simp (e, f) (unread s i f)))
 
 -- The number that digits make where no exponent follows: M, and how many of its digits are a fraction
-abbrev made : Bool → Bool → ℕ → ℕ → ℕ → ToldNumber
-made minus ok m f end = cond (ok && (ltb m cap && leb f 22)) (record { value = valueOf minus m (ltb 0 f) f; end = place end }) noNumber
+abbrev made : Bool → Bool → Bool → ℕ → ℕ → ℕ → ToldNumber
+made minus ok dotted m f end = cond (ok && (ltb m cap && leb f 22)) (record { value = valueOf minus m (ltb 0 f) f; whole = not dotted; end = place end }) noNumber
 
 unscaled : (f : ℕ) → scaleOf false 0 f ≡ record { down = ltb 0 f; by = f }
 unfolding scaleOf
@@ -122,7 +122,7 @@ unscaled (suc f) =
 
 module _ (s : List ℕ) (at : ℕ) {lead : Lead} (l : lead ≡ leadAt s at) {ok dotted : Bool} {m f end : ℕ}
     (q : mantissaAt s (lead .from .0) ≡ record { ok = ok; value = m; fraction = f; dotted = dotted; end = place end }) (x : (exponentAt s end) .written ≡ false) where
-  number-made : made (lead .minus) ok m f end ≡ toldNumber (parseNumber s at)
+  number-made : made (lead .minus) ok dotted m f end ≡ toldNumber (parseNumber s at)
   unfolding leadAt numberFrom finished scaled toldNumber
   number-made =
       let same : mantissaAt s (afterSign s (scan isSpace s at)) ≡ record { ok = ok; value = m; fraction = f; dotted = dotted; end = place end } = rw l at q in
@@ -130,18 +130,18 @@ module _ (s : List ℕ) (at : ℕ) {lead : Lead} (l : lead ≡ leadAt s at) {ok 
       rw (begins s at, l)
       (either ok
       (λ a. either (ltb m cap)
-      (λ b. either (leb f 22) (λ c. simp (same, none, a, b, unscaled, c)) (λ c. simp (same, none, a, b, unscaled, c)))
+      (λ b. either (leb f 22) (λ c. either dotted (λ d. simp (same, none, a, b, unscaled, c, d)) (λ d. simp (same, none, a, b, unscaled, c, d))) (λ c. simp (same, none, a, b, unscaled, c)))
       (λ b. simp (same, none, a, b)))
       (λ a. simp (same, a)))
 
   -- the code holds M at the cap
   module _ {n : ℕ} (h : n ≡ min cap m) where
     made-yes : {v : Float} → (ok && (ltb n cap && leb f 22)) ≡ true → v ≡ valueOf (lead .minus) n (ltb 0 f) f
-        → _≡_ {A = ToldNumber} (record { value = v; end = place end }) (toldNumber (parseNumber s at))
+        → _≡_ {A = ToldNumber} (record { value = v; whole = not dotted; end = place end }) (toldNumber (parseNumber s at))
     made-yes t w =
         let small : n < cap = ltb-true n cap (and-first _ _ (and-second ok _ t)) in
         let same : m ≡ n = omega arith in
-        let held : _≡_ {A = ToldNumber} (record { value = valueOf (lead .minus) n (ltb 0 f) f; end = place end }) (made (lead .minus) ok m f end) = simp (same, t) in
+        let held : _≡_ {A = ToldNumber} (record { value = valueOf (lead .minus) n (ltb 0 f) f; whole = not dotted; end = place end }) (made (lead .minus) ok dotted m f end) = simp (same, t) in
         rw w (held ∙ number-made)
 
     made-no : {r : ToldNumber} → (ok && (ltb n cap && leb f 22)) ≡ false → r ≡ noNumber → r ≡ toldNumber (parseNumber s at)
@@ -151,7 +151,7 @@ module _ (s : List ℕ) (at : ℕ) {lead : Lead} (l : lead ≡ leadAt s at) {ok 
         (λ (l : m < cap). simp (lt-ltb m cap l, lt-ltb n cap (omega arith)))
         (λ (l : cap ≤ m). simp (le-ltb m cap l, le-ltb n cap (omega arith)))
         (lt-or-le m cap) in
-        let none : noNumber ≡ made (lead .minus) ok m f end = simp (same, t) in
+        let none : noNumber ≡ made (lead .minus) ok dotted m f end = simp (same, t) in
         w ∙ none ∙ number-made
 
 module _ (s : List ℕ) (at : ℕ) {lead : Lead} {dot n : ℕ} (v : Begun s at lead dot n) where
@@ -162,7 +162,7 @@ module _ (s : List ℕ) (at : ℕ) {lead : Lead} {dot n : ℕ} (v : Begun s at l
     whole-is = simp (← v .ends, ← p, ne-eqb b 46 h)
 
     pub whole-told : {w : Float} → (ltb (lead .from .0) dot && ltb n cap) ≡ true → w ≡ valueOf (lead .minus) n false 0
-        → _≡_ {A = ToldNumber} (record { value = w; end = place dot }) (toldNumber (parseNumber s at))
+        → _≡_ {A = ToldNumber} (record { value = w; whole = true; end = place dot }) (toldNumber (parseNumber s at))
     whole-told t w = made-yes s at (v .leads) whole-is (sym k ∙ f) (v .sums) (simp and-true t) w
 
     pub whole-untold : {r : ToldNumber} → (ltb (lead .from .0) dot && ltb n cap) ≡ false → r ≡ noNumber → r ≡ toldNumber (parseNumber s at)
@@ -182,7 +182,7 @@ module _ (s : List ℕ) (at : ℕ) {lead : Lead} {dot n : ℕ} (v : Begun s at l
     fraction-held = q ∙ rw (v .sums) (capped (value 0 (drop (lead .from .0) s)) (drop (dot + 1) s))
 
     pub fraction-told : {w : Float} → (ltb (dot + 1) end && (ltb m cap && leb (end - (dot + 1)) 22)) ≡ true
-        → w ≡ valueOf (lead .minus) m true (end - (dot + 1)) → _≡_ {A = ToldNumber} (record { value = w; end = place end }) (toldNumber (parseNumber s at))
+        → w ≡ valueOf (lead .minus) m true (end - (dot + 1)) → _≡_ {A = ToldNumber} (record { value = w; whole = false; end = place end }) (toldNumber (parseNumber s at))
     fraction-told t w =
         let some : ltb 0 (end - (dot + 1)) ≡ true = lt-ltb 0 (end - (dot + 1)) (omega (arith, ltb-true (dot + 1) end (and-first _ _ t))) in
         made-yes s at (v .leads) fraction-is (sym k ∙ f) fraction-held t (simp some w)
@@ -229,7 +229,7 @@ module _ (minus : Bool) (m k : ℕ) {p : Float} (q : p ≡ powerOf k) where
 pub ruleset operations = (power-one, product-minus, product, quotient-minus, quotient, in-float)
 
 -- the plain reader's answer, told
-pub plain-value : (x r : NumberRead) (n : Number) (p : Place) → r ≡ x → r ≡ N.Value n p → _≡_ {A = ToldNumber} (record { value = n .value; end = p }) (toldNumber x)
+pub plain-value : (x r : NumberRead) (n : Number) (p : Place) → r ≡ x → r ≡ N.Value n p → _≡_ {A = ToldNumber} (record { value = n .value; whole = n .whole; end = p }) (toldNumber x)
 unfolding toldNumber
 plain-value x r n p q e = rw (← q, e)
 

@@ -1,6 +1,5 @@
 -- What a told number says to a caller.
 use Prim.Native.Nat.{ℕ, _≤_, _<_}
-use mathlib.Core.Bool.{Bool}
 use mathlib.Core.List.{List}
 use mathlib.Core.Path.{_≡_, refl, _∙_}
 use native.Mathlib.Omega.{arith}
@@ -16,10 +15,9 @@ use Rattle.numbers.proofs.Values.{allValues, values-known, number-values, numbe
 use Rattle.fast_numbers.specs.Told.{toldNumber}
 use Rattle.fast_numbers.specs.declared.ToldNumber.{ToldNumber}
 
--- the plain reader read it; whether it was written whole is not told
+-- the plain reader read it
 pub record Read (s : List ℕ) (at : ℕ) (r : ToldNumber) : Type 0 where
-  pub whole : Bool
-  pub is : parseNumber s at ≡ N.Value (record { value = r .value; whole = whole; end = r .end }) (r .end)
+  pub is : parseNumber s at ≡ N.Value (record { value = r .value; whole = r .whole; end = r .end }) (r .end)
 
 -- the plain reader read none
 pub record Unread (s : List ℕ) (at : ℕ) : Type 0 where
@@ -37,9 +35,9 @@ module _ (s : List ℕ) (at : ℕ) (r : ToldNumber) (q : r ≡ toldNumber (parse
     where
       go : (x : NumberRead) → parseNumber s at ≡ x → Read s at r
       go (N.Value n p) e =
-          let same : r ≡ record { value = n .value; end = p } = rw e at q in
+          let same : r ≡ record { value = n .value; whole = n .whole; end = p } = rw e at q in
           let last : n .end ≡ p = values-known (λ n p. n .end ≡ p) (parseNumber s at) n p (ended s at) e in
-          record { whole = n .whole; is = e ∙ rw (same, ← last) }
+          record { is = e ∙ rw (same, ← last) }
       go (N.Refused f) e =
           let none : r .end .0 ≡ 0 = rw (q, e) in
           absurd (omega arith)
@@ -50,7 +48,7 @@ module _ (s : List ℕ) (at : ℕ) (r : ToldNumber) (q : r ≡ toldNumber (parse
     where
       go : (x : NumberRead) → parseNumber s at ≡ x → Unread s at
       go (N.Value n p) e =
-          let same : r ≡ record { value = n .value; end = p } = rw e at q in
+          let same : r ≡ record { value = n .value; whole = n .whole; end = p } = rw e at q in
           let none : p .0 ≡ 0 = rw same at h in
           absurd (omega (arith, number-known s at n p e .least))
       go (N.Refused f) e = record { fault = f; is = e }
@@ -61,7 +59,7 @@ module _ (s : List ℕ) (at : ℕ) (r : ToldNumber) (q : r ≡ toldNumber (parse
     where
       go : (x : NumberRead) → parseNumber s at ≡ x → r .end .0 ≤ length s
       go (N.Value n p) e =
-          let same : r ≡ record { value = n .value; end = p } = rw e at q in
+          let same : r ≡ record { value = n .value; whole = n .whole; end = p } = rw e at q in
           rw same (number-known s at n p e .inside)
       go (N.Refused f) e =
           let same : r .end .0 ≡ 0 = rw (q, e) in
@@ -69,8 +67,8 @@ module _ (s : List ℕ) (at : ℕ) (r : ToldNumber) (q : r ≡ toldNumber (parse
 
   -- going on with it
   module _ {B : Type 0} (x : B) (out : Fault → B) (k : Number → Place → B) where
-    pub then-told : 0 < r .end .0 → ((whole : Bool) → x ≡ k (record { value = r .value; whole = whole; end = r .end }) (r .end)) → x ≡ thenNumber out (parseNumber s at) k
-    then-told h f = rw (told-read h .is) (f (told-read h .whole))
+    pub then-told : 0 < r .end .0 → x ≡ k (record { value = r .value; whole = r .whole; end = r .end }) (r .end) → x ≡ thenNumber out (parseNumber s at) k
+    then-told h f = rw (told-read h .is) f
 
     pub then-untold : r .end .0 ≡ 0 → ((e : Fault) → x ≡ out e) → x ≡ thenNumber out (parseNumber s at) k
     then-untold h f = rw (told-unread h .is) (f (told-unread h .fault))

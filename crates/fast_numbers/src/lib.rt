@@ -13,9 +13,10 @@ use numbers::Digits;
 use numbers::LIMIT;
 use numbers::NumberRead;
 
-// A number without its refusal: its value and where its text ends, the place 0 where none is read.
+// A number without its refusal: its value, whether it was written with neither dot nor exponent, and where its text ends, the place 0 where none is read.
 pub struct ToldNumber {
     pub value: f64,
+    pub whole: bool,
     pub end: Place,
 }
 
@@ -74,6 +75,7 @@ fn told_from(text: &[u8], at: Place, lead: Lead, digits: Digits) -> ToldNumber
     if (from < end) & (n < LIMIT) {
         return ToldNumber {
             value: whole_value(lead.minus, n),
+            whole: true,
             end: Place(end),
         };
     }
@@ -98,6 +100,7 @@ fn told_fraction(text: &[u8], at: Place, lead: Lead, digits: Digits) -> ToldNumb
     if (next < end) & ((n < LIMIT) & (fraction <= 22)) {
         return ToldNumber {
             value: fraction_value(lead.minus, n, fraction),
+            whole: false,
             end: Place(end),
         };
     }
@@ -126,6 +129,7 @@ fn told_plainly(text: &[u8], at: Place) -> ToldNumber
         NumberRead::Refused(_) => untold(),
         NumberRead::Value(n, p) => ToldNumber {
             value: n.value,
+            whole: n.whole,
             end: p,
         },
     }
@@ -136,6 +140,7 @@ fn untold() -> ToldNumber
 {
     ToldNumber {
         value: 0.0,
+        whole: false,
         end: Place(0),
     }
 }

@@ -71,7 +71,7 @@ whole-lies s e q = let w : Refuses (length s) (parseWhole s) = whole-refuses s i
 
 -- of a refusal, if there is one
 abbrev Answers : ℕ → LengthAnswer → Type 0
-Answers n (O.Value l) = T true
+Answers n (O.Value l x) = T true
 Answers n (O.Refused e) = Inside n e
 
 -- THEOREM (document 02, P2). A refusal's stretch starts and ends in the lent text, and not before it starts
@@ -81,12 +81,12 @@ stretch-inside s e q =
     let w : Answers (length s) (fromStr s) = text-edge (Answers (length s)) s O.Refused _ (λ e h. h) (λ h. go (parseWhole s) (whole-refuses s)) in
     rw q at w
   where
-    go : (x : LengthRead) → Refuses (length s) x → Answers (length s) (thenLength (λ e. O.Refused (refusalOf s e)) x (λ l n p. O.Value l))
+    go : (x : LengthRead) → Refuses (length s) x → Answers (length s) (thenLength (λ e. O.Refused (refusalOf s e)) x (λ l n p. O.Value l n))
     go (L.Value l n p) v = tt
     go (L.Refused f) v = refusal-inside s (v .lies)
 
 abbrev Steps : ℕ → LengthStep → Type 0
-Steps n (S.Value l p) = T true
+Steps n (S.Value l x p) = T true
 Steps n (S.End p) = T true
 Steps n (S.Refused e p) = Inside n e
 
@@ -99,6 +99,6 @@ step-inside s i e p q =
     (λ h. either (leb (length s) i) (λ t. simp t tt) (λ t. simp t (go (parseListLength s i) (list-refuses s i h)))) in
     rw q at w
   where
-    go : (x : LengthRead) → Refuses (length s) x → Steps (length s) (thenLength (λ e. S.Refused (refusalOf s e) (place (length s))) x (λ l n p. S.Value l p))
+    go : (x : LengthRead) → Refuses (length s) x → Steps (length s) (thenLength (λ e. S.Refused (refusalOf s e) (place (length s))) x (λ l n p. S.Value l n p))
     go (L.Value l n p) v = tt
     go (L.Refused f) v = refusal-inside s (v .lies)

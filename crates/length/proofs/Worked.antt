@@ -1,5 +1,5 @@
 -- Worked examples of the definitions, computed.
-use mathlib.Core.Bool.{false}
+use mathlib.Core.Bool.{false, true}
 use mathlib.Core.Path.{_≡_, refl}
 use lib.IntN.{pos}
 use lib.Ieee.{fin, mul, div, neg, ofInt, ofBits}
@@ -21,7 +21,7 @@ use Rattle.length.specs.declared.LengthAnswer.the-variants as O
 use Rattle.length.specs.declared.LengthStep.the-variants as S
 
 -- `1em` is 1 em: the `e` is not an exponent's
-pub one-em : fromStr (ascii "1em") ≡ O.Value (record { number = fin false 1 (pos 0); unit = U.Em })
+pub one-em : fromStr (ascii "1em") ≡ O.Value (record { number = fin false 1 (pos 0); unit = U.Em }) (record { value = fin false 1 (pos 0); whole = true; end = place 1 })
 unfolding fromStr parseWhole parseLength unitAt unitRest unitWidth startsWith parseNumber numberFrom finished scaled valueOf scaleOf exponentAt exponentFrom mantissaAt mantissaDot afterSign value scan run within bind powerOf powerBits mul div neg ofInt ofBits admitText admitUtf8 utf8Of walk charLen lenAt rowOf keeps
 one-em = refl
 
@@ -36,7 +36,7 @@ unfolding parseWhole parseLength unitAt unitRest unitWidth startsWith parseNumbe
 capitals = refl
 
 -- `5% ,7`: the step hands out 5 % and the place of the 7
-first-step : nextLength (ascii "5% ,7") 0 ≡ S.Value (record { number = fin false 5 (pos 0); unit = U.Percent }) (place 4)
+first-step : nextLength (ascii "5% ,7") 0 ≡ S.Value (record { number = fin false 5 (pos 0); unit = U.Percent }) (record { value = fin false 5 (pos 0); whole = true; end = place 1 }) (place 4)
 unfolding nextLength parseListLength parseListSeparator isCurrByteEq parseLength unitAt unitRest unitWidth startsWith parseNumber numberFrom finished scaled valueOf scaleOf exponentAt exponentFrom mantissaAt mantissaDot afterSign value scan run within bind powerOf powerBits mul div neg ofInt ofBits admitText admitUtf8 utf8Of walk charLen lenAt rowOf keeps admitPlace onCharacter firsts
 first-step = refl
 

@@ -76,11 +76,11 @@ parseWhole s =
 
 -- the same at the edge: "Order: 1, 2, 3, then the first that the reading below meets."
 unfoldable pub fromStr : List ℕ → LengthAnswer
-fromStr s = thenAdmitted O.Refused (admitText s) (thenLength (λ e. O.Refused (refusalOf s e)) (parseWhole s) (λ l n p. O.Value l))
+fromStr s = thenAdmitted O.Refused (admitText s) (thenLength (λ e. O.Refused (refusalOf s e)) (parseWhole s) (λ l n p. O.Value l n))
 
 -- "A list step refused by 1 to 3 gives its list place back as it came; refused by 4 to 15, or with nothing left, it gives the end of the text." 22 to 24 are as 9 and 10 (document 02)
 unfoldable pub nextLength : List ℕ → ℕ → LengthStep
 nextLength s i =
     thenAdmitted (λ e. S.Refused e (place i)) (admitPlace s i)
     (cond (leb (length s) i) (S.End (place (length s)))
-    (thenLength (λ e. S.Refused (refusalOf s e) (place (length s))) (parseListLength s i) (λ l n p. S.Value l p)))
+    (thenLength (λ e. S.Refused (refusalOf s e) (place (length s))) (parseListLength s i) (λ l n p. S.Value l n p)))

@@ -35,14 +35,15 @@ pub enum LengthRead {
     Refused(Fault),
 }
 
+// The length and its number as it was written, or why there is none.
 pub enum LengthAnswer {
-    Value(Length),
+    Value(Length, Number),
     Refused(Refusal),
 }
 
-// A step of a list: a length with the next list place, the end with its place, or a refusal with the list place given back.
+// A step of a list: a length and its number with the next list place, the end with its place, or a refusal with the list place given back.
 pub enum LengthStep {
-    Value(Length, Place),
+    Value(Length, Number, Place),
     End(Place),
     Refused(Refusal, Place),
 }
@@ -56,7 +57,7 @@ pub fn from_str(text: &[u8]) -> LengthAnswer
         Admission::Refused(refusal) => LengthAnswer::Refused(refusal),
         Admission::Admitted => match parse_whole(text) {
             LengthRead::Refused(e) => LengthAnswer::Refused(stream::refusal_of(text, e)),
-            LengthRead::Value(l, _, _) => LengthAnswer::Value(l),
+            LengthRead::Value(l, n, _) => LengthAnswer::Value(l, n),
         },
     }
 }
@@ -181,7 +182,7 @@ pub fn next(text: &[u8], place: Place) -> LengthStep
                 LengthRead::Refused(e) => {
                     LengthStep::Refused(stream::refusal_of(text, e), Place(end))
                 }
-                LengthRead::Value(l, _, p) => LengthStep::Value(l, p),
+                LengthRead::Value(l, n, p) => LengthStep::Value(l, n, p),
             }
         }
     }

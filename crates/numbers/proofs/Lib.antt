@@ -4,6 +4,7 @@ pub mod Shifts
 pub mod Exact
 pub mod Bounds
 pub mod Values
+pub mod Wholes
 pub mod Stretches
 pub mod Sames
 pub mod Nearest

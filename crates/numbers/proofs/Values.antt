@@ -41,6 +41,11 @@ allValues P (N.Refused e) = T true
 pub values-known : (P : Number → Place → Type 0) (x : NumberRead) (n : Number) (p : Place) → allValues P x → x ≡ N.Value n p → P n p
 values-known P x n p v e = rw e at v
 
+-- what was read is what was read
+pub numbers-read : (x : NumberRead) → allValues (λ n p. x ≡ N.Value n p) x
+numbers-read (N.Value n p) = refl
+numbers-read (N.Refused e) = tt
+
 -- what holds of every refusal and of going on with every value holds of going on
 pub values-all : {B : Type 0} (P : B → Type 0) (Q : Number → Place → Type 0) (x : NumberRead) (out : Fault → B) (k : Number → Place → B)
     → allValues Q x → ((e : Fault) → P (out e)) → ((n : Number) (p : Place) → Q n p → P (k n p)) → P (thenNumber out x k)
@@ -104,7 +109,7 @@ module _ (s : List ℕ) where
       (λ e. simp e (goes-trans v (goes-trans (goes-one s _ isDot refl refl e) (goes-scan s _ isDigit digit-stop))))
       (λ e. simp e v)
 
-  mantissa-least : (at : ℕ) → mantissaAt s at .ok ≡ true → at + 1 ≤ mantissaAt s at .end .0
+  pub mantissa-least : (at : ℕ) → mantissaAt s at .ok ≡ true → at + 1 ≤ mantissaAt s at .end .0
   unfolding mantissaAt mantissaDot
   mantissa-least at ok =
       let dot = scan isDigit s at in

@@ -28,6 +28,10 @@ use Rattle.numbers.specs.declared.NumberRead.the-variants as N
 abbrev pub startsNumber : ℕ → Bool
 startsNumber b = isDigit b || (isSign b || eqb b 46)
 
+-- neither a dot (46) nor an `e` (101) or `E` (69): document 02, P3, "whether a dot or an exponent was written"
+abbrev pub isPlain : ℕ → Bool
+isPlain b = not (eqb b 46 || (eqb b 101 || eqb b 69))
+
 -- "an optional sign"
 unfoldable pub afterSign : List ℕ → ℕ → ℕ
 afterSign s i = cond (isSign (getD s i 0)) (i + 1) i

@@ -79,7 +79,7 @@ module _ (s : List ℕ) (i : ℕ) where
   abbrev lengthOf : Admission → Bool → LengthRead → LengthStep
   lengthOf x t y =
       thenAdmitted (λ e. S.Refused e (place i)) x
-      (cond t (S.End (place (length s))) (thenLength (λ e. S.Refused (refusalOf s e) (place (length s))) y (λ l n p. S.Value l p)))
+      (cond t (S.End (place (length s))) (thenLength (λ e. S.Refused (refusalOf s e) (place (length s))) y (λ l n p. S.Value l n p)))
 
   pub length-state : lengthState (nextLength s i) ≡ paperState (lengths.paperStep (nextLength s i) .refusal) (lengths.paperStep (nextLength s i) .ended)
   unfolding nextLength lengths.paperStep refusalOf

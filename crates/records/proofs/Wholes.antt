@@ -1,5 +1,6 @@
 -- The laws of the writing of an answer's record, which is all of the entries that are lent.
-use Prim.Native.Nat.{ℕ, _≤_}
+use Prim.Native.Nat.{ℕ, _+_, _≤_}
+use mathlib.Core.Bool.{cond}
 use mathlib.Core.List.{List, [], _∷_, append-nil}
 use mathlib.Core.Path.{_≡_, refl, _∙_}
 use native.Mathlib.Omega.{arith}
@@ -9,6 +10,11 @@ use lib.Seq.{paste, drop-length, take-all}
 use Rattle.stream.specs.Refusals.{bareRefusal}
 use Rattle.bytes.specs.declared.Part.{Part}
 use Rattle.stream.specs.declared.Refusal.{Refusal}
+use Rattle.numbers.specs.declared.Number.{Number}
+use Rattle.bytes.specs.declared.Place.{Place}
+use Rattle.length.specs.declared.LengthStep.{LengthStep}
+use Rattle.length.specs.declared.LengthStep.the-variants as S
+use Rattle.records.proofs.Stores.{record-set}
 use Rattle.color.specs.declared.Color.{Color}
 use Rattle.color.specs.declared.ColorAnswer.{ColorAnswer}
 use Rattle.color.specs.declared.ColorAnswer.the-variants as C
@@ -33,7 +39,7 @@ use Rattle.paint.specs.declared.PaintAnswer.the-variants as Q
 use Rattle.paint.specs.declared.PaintFallback.{PaintFallback}
 use Rattle.paint.specs.declared.PaintFallback.the-variants as F
 use Rattle.paint.specs.declared.Whose.{Whose}
-use Rattle.records.specs.Records.{row, foundRow, bitsOf, lengthUnit, angleUnit, colorEntries, colorRecord, lengthRecord, angleRecord, linkRecord, paintRow, paintRecord, whoseNumber, inheritedRecord}
+use Rattle.records.specs.Records.{row, foundRow, bitsOf, lengthUnit, angleUnit, colorEntries, colorRecord, lengthRecord, lengthStepRecord, angleRecord, linkRecord, paintRow, paintRecord, whoseNumber, inheritedRecord}
 
 -- 24 entries stored over 24 are all of them
 pub all-of : {o : List ℕ} (xs r : List ℕ) → o ≡ paste xs 0 r 24 → length xs ≡ 24 → length r ≡ 24 → o ≡ r
@@ -70,15 +76,15 @@ module _ {o : List ℕ} {e : Refusal} where
 
 -- a value, by the numbers that calls answered
 module _ {o : List ℕ} (xs : List ℕ) where
-  pub length-value : {a : LengthAnswer} {l : Length} {m n : ℕ} → a ≡ L.Value l → m ≡ bitsOf (l .number) → n ≡ lengthUnit (l .unit)
-      → o ≡ paste xs 0 (foundRow 0 (m ∷ n ∷ [])) 24 → length xs ≡ 24 → o ≡ lengthRecord a
-  unfolding lengthRecord lengths.paper
-  length-value {m} {n} h f g w l = rw (h, ← f, ← g) (whole xs (bareRefusal 0) 0 0 (m ∷ n ∷ []) w l)
+  pub length-value : {a : LengthAnswer} {l : Length} {z : Number} {m n b : ℕ} → a ≡ L.Value l z → m ≡ bitsOf (l .number) → n ≡ lengthUnit (l .unit) → b ≡ cond (z .whole) 1 0
+      → o ≡ paste xs 0 (foundRow 0 (m ∷ n ∷ b ∷ [])) 24 → length xs ≡ 24 → set o 12 (z .end .0) ≡ lengthRecord a
+  unfolding row lengthRecord lengths.paper
+  length-value {m = m} {n} {b} h f g k w l = rw (h, ← f, ← g, ← k, whole xs (bareRefusal 0) 0 0 (m ∷ n ∷ b ∷ []) w l)
 
-  pub angle-value : {a : AngleAnswer} {t : Angle} {m n d : ℕ} {x : Float} → a ≡ A.Value t → m ≡ bitsOf (t .number) → n ≡ angleUnit (t .unit) → x ≡ toDegrees t → d ≡ bitsOf x
-      → o ≡ paste xs 0 (foundRow 0 (m ∷ n ∷ d ∷ [])) 24 → length xs ≡ 24 → o ≡ angleRecord a
-  unfolding angleRecord angles.paper
-  angle-value {m} {n} {d} h f g i j w l = rw (h, ← f, ← g, ← i, ← j) (whole xs (bareRefusal 0) 0 0 (m ∷ n ∷ d ∷ []) w l)
+  pub angle-value : {a : AngleAnswer} {t : Angle} {z : Number} {m n d b : ℕ} {x : Float} → a ≡ A.Value t z → m ≡ bitsOf (t .number) → n ≡ angleUnit (t .unit) → x ≡ toDegrees t → d ≡ bitsOf x → b ≡ cond (z .whole) 1 0
+      → o ≡ paste xs 0 (foundRow 0 (m ∷ n ∷ d ∷ [])) 24 → length xs ≡ 24 → set (set o 12 b) 13 (z .end .0) ≡ angleRecord a
+  unfolding row angleRecord angles.paper
+  angle-value {m = m} {n} {d} h f g i j k w l = rw (h, ← f, ← g, ← i, ← j, ← k, whole xs (bareRefusal 0) 0 0 (m ∷ n ∷ d ∷ []) w l)
 
   pub link-value : {a : LinkAnswer} {p : Part} → a ≡ K.Link p → o ≡ paste xs 0 (foundRow 0 (p .start .0 ∷ p .len ∷ [])) 24 → length xs ≡ 24 → o ≡ linkRecord a
   unfolding linkRecord
@@ -139,3 +145,11 @@ module _ {o : List ℕ} {a : Inheritance} {w : Whose} {n : ℕ} where
       → o ≡ inheritedRecord a
   unfolding inheritedRecord paints.paperInherited
   inherited-chosen {p} xs h g f l = rw (h, ← g) (whole xs (bareRefusal 0) 0 0 (n ∷ p .start .0 ∷ p .len ∷ []) f l)
+
+-- a length of a list, among other records
+pub length-step-value : {o : List ℕ} (xs : List ℕ) (k : ℕ) {x : LengthStep} {l : Length} {z : Number} {p : Place} {m n b : ℕ} → x ≡ S.Value l z p
+    → m ≡ bitsOf (l .number) → n ≡ lengthUnit (l .unit) → b ≡ cond (z .whole) 1 0 → o ≡ paste xs k (foundRow (p .0) (m ∷ n ∷ b ∷ [])) 24 → k + 24 ≤ length xs
+    → set o (k + 12) (z .end .0) ≡ paste xs k (lengthStepRecord x) 24
+unfolding row lengthStepRecord lengths.paperStep
+length-step-value xs k {z = z} {p} {m} {n} {b} h f g i w l =
+    rw (h, ← f, ← g, ← i) (record-set xs k (foundRow (p .0) (m ∷ n ∷ b ∷ [])) w l (omega arith) 12 (omega arith) (z .end .0))

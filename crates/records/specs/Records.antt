@@ -4,13 +4,14 @@
 --   9 .. 20 the result; 21 and 22 where the refusal's stretch starts and ends
 -- A result has at most twelve numbers; what a call does not use is 0.
 use Prim.Native.Nat.{ℕ}
-use mathlib.Core.Bool.{cond}
+use mathlib.Core.Bool.{Bool, cond}
 use mathlib.Core.List.{List, [], _∷_, _++_}
 use lib.Dec.{eqb}
 use lib.Ieee.{Float, binary64, toBits}
 use lib.ListN.{getD}
 use Rattle.stream.specs.Refusals.{bareRefusal}
 use Rattle.bytes.specs.declared.Part.{Part}
+use Rattle.bytes.specs.declared.Place.{Place}
 use Rattle.stream.specs.declared.Refusal.{Refusal}
 use Rattle.color.specs.Paper as colors
 use Rattle.color.specs.declared.Color.{Color}
@@ -86,18 +87,24 @@ lengthUnit U.Percent = 9
 abbrev pub lengthEntries : Length → List ℕ
 lengthEntries l = bitsOf (l .number) ∷ lengthUnit (l .unit) ∷ []
 
+-- how a length's or an angle's number was written: whether with neither a dot nor an exponent, and where it ended
+abbrev pub writtenEntries : Bool → Place → List ℕ
+writtenEntries whole end = cond whole 1 0 ∷ end .0 ∷ []
+
+-- a length as such, whole or of a list: 11 whether its number is whole, 12 where it ended
 unfoldable pub lengthRecord : LengthAnswer → List ℕ
-lengthRecord a = row (lengths.paper a .refusal) 0 0 (lengthEntries (lengths.paper a .result))
+lengthRecord a = row (lengths.paper a .refusal) 0 0 (lengthEntries (lengths.paper a .result) ++ writtenEntries (lengths.paper a .whole) (lengths.paper a .end))
 
 -- A list's state is ours: the paper's step tells that a list has ended, and a refusal by its number, but not an end by `none`, 2, from an end, 1
 abbrev pub lengthState : LengthStep → ℕ
-lengthState (S.Value l p) = 0
+lengthState (S.Value l n p) = 0
 lengthState (S.End p) = 1
 lengthState (S.Refused e p) = 3
 
 unfoldable pub lengthStepRecord : LengthStep → List ℕ
 lengthStepRecord x =
-    row (lengths.paperStep x .refusal) (lengthState x) (lengths.paperStep x .place .0) (lengthEntries (lengths.paperStep x .result))
+    row (lengths.paperStep x .refusal) (lengthState x) (lengths.paperStep x .place .0)
+    (lengthEntries (lengths.paperStep x .result) ++ writtenEntries (lengths.paperStep x .whole) (lengths.paperStep x .end))
 
 unfoldable pub angleUnit : AngleUnit → ℕ
 angleUnit W.Degrees = 0
@@ -105,12 +112,12 @@ angleUnit W.Gradians = 1
 angleUnit W.Radians = 2
 angleUnit W.Turns = 3
 
--- an angle: 9 the number's bits, 10 the unit, 11 the degrees' bits
+-- an angle: 9 the number's bits, 10 the unit, 11 the degrees' bits; 12 whether its number is whole, 13 where it ended
 abbrev pub angleEntries : Angle → List ℕ
 angleEntries a = bitsOf (a .number) ∷ angleUnit (a .unit) ∷ bitsOf (toDegrees a) ∷ []
 
 unfoldable pub angleRecord : AngleAnswer → List ℕ
-angleRecord a = row (angles.paper a .refusal) 0 0 (angleEntries (angles.paper a .result))
+angleRecord a = row (angles.paper a .refusal) 0 0 (angleEntries (angles.paper a .result) ++ writtenEntries (angles.paper a .whole) (angles.paper a .end))
 
 -- a link: 9 its start, 10 its length
 abbrev pub linkEntries : Part → List ℕ

@@ -41,10 +41,13 @@ pub fn write_length(out: &mut [u64; 24], answer: LengthAnswer)
 {
     match answer {
         LengthAnswer::Refused(e) => refused(out, e),
-        LengthAnswer::Value(l) => {
+        LengthAnswer::Value(l, n) => {
             let unit = l.unit;
+            let end = n.end;
             let bits = entries::bits_of(l.number);
-            written::two(out, 0, Place(0), bits, entries::length_unit(unit));
+            let unit = entries::length_unit(unit);
+            written::three(out, 0, Place(0), bits, unit, entries::bit(n.whole));
+            out[12] = end.0 as u64;
         }
     }
 }
@@ -54,11 +57,14 @@ pub fn write_angle(out: &mut [u64; 24], answer: AngleAnswer)
 {
     match answer {
         AngleAnswer::Refused(e) => refused(out, e),
-        AngleAnswer::Value(a) => {
+        AngleAnswer::Value(a, n) => {
             let unit = a.unit;
+            let end = n.end;
             let bits = entries::bits_of(a.number);
             let degrees = entries::bits_of(a.to_degrees());
             written::three(out, 0, Place(0), bits, entries::angle_unit(unit), degrees);
+            out[12] = entries::bit(n.whole);
+            out[13] = end.0 as u64;
         }
     }
 }

@@ -1,9 +1,8 @@
 // The numbers that stand in a row's entries.
+ghost use mathlib.Core.Bool.{cond};
 ghost use mathlib.Core.Path.{_≡_};
 ghost use Rattle.records.specs.Records.{bitsOf, lengthUnit, angleUnit, whoseNumber};
-ghost use Rattle.records.specs.Inner.{plainNumber};
 use angle::AngleUnit;
-use filter_functions::Plain;
 use length::LengthUnit;
 use paint::Whose;
 
@@ -54,17 +53,9 @@ pub fn whose_number(whose: Whose) -> u64
     }
 }
 
-// A plain function's kind.
-pub fn plain_number(plain: Plain) -> u64
-    ensures { λ r. ⌜ r ≡ plainNumber plain ⌝ }
+// A yes as 1, a no as 0.
+pub fn bit(yes: bool) -> u64
+    ensures { λ r. ⌜ r ≡ cond yes 1 0 ⌝ }
 {
-    match plain {
-        Plain::Brightness => 3,
-        Plain::Contrast => 4,
-        Plain::Grayscale => 5,
-        Plain::Invert => 7,
-        Plain::Opacity => 8,
-        Plain::Sepia => 9,
-        Plain::Saturate => 10,
-    }
+    if yes { 1 } else { 0 }
 }

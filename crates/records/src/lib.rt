@@ -15,7 +15,6 @@ pub use answers::write_paint;
 pub use entries::angle_unit;
 pub use entries::bits_of;
 pub use entries::length_unit;
-pub use entries::plain_number;
 pub use filters::shadow;
 pub use steps::write_filter;
 pub use steps::write_length_step;

@@ -17,10 +17,13 @@ pub fn write_length_step(out: &mut [u64], k: usize, step: LengthStep)
     match step {
         LengthStep::Refused(e, place) => written::refused(out, k, e, 3, place),
         LengthStep::End(place) => written::ended(out, k, 1, place),
-        LengthStep::Value(l, place) => {
+        LengthStep::Value(l, n, place) => {
             let unit = l.unit;
+            let end = n.end;
             let bits = entries::bits_of(l.number);
-            written::two(out, k, place, bits, entries::length_unit(unit));
+            let unit = entries::length_unit(unit);
+            written::three(out, k, place, bits, unit, entries::bit(n.whole));
+            out[k + 12] = end.0 as u64;
         }
     }
 }

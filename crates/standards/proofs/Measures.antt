@@ -107,7 +107,8 @@ module _ (r : NumbersRead) (l : List Blank) where
       simp (append-assoc, a, b, width-is, length-append, e)
 
   -- and as a whole text
-  pub length-whole : (t : S.Length) → InDomain (t .number-of) → length (blanks l ++ lengthText t) ≤ 4096 → LS.fromStr (blanks l ++ lengthText t) ≡ LA.Value (lengthOf t)
+  pub length-whole : (t : S.Length) → InDomain (t .number-of) → length (blanks l ++ lengthText t) ≤ 4096 → LS.fromStr (blanks l ++ lengthText t)
+      ≡ LA.Value (lengthOf t) (numberOf (t .number-of) (length l + length (number (t .number-of))))
   unfolding LS.fromStr LS.parseWhole
   length-whole t d h =
       let s = blanks l ++ lengthText t in
@@ -162,7 +163,8 @@ module _ (r : NumbersRead) (l : List Blank) where
       simp (append-assoc, a, b, length-append, e)
 
   -- and as a whole text
-  pub angle-whole : (t : S.Angle) → InDomain (t .number-of) → length (blanks l ++ angleText t) ≤ 4096 → AS.fromStr (blanks l ++ angleText t) ≡ RA.Value (angleOf t)
+  pub angle-whole : (t : S.Angle) → InDomain (t .number-of) → length (blanks l ++ angleText t) ≤ 4096 → AS.fromStr (blanks l ++ angleText t)
+      ≡ RA.Value (angleOf t) (numberOf (t .number-of) (length l + length (number (t .number-of))))
   unfolding AS.fromStr AS.parseWhole
   angle-whole t d h =
       let s = blanks l ++ angleText t in

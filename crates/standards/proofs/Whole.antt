@@ -58,9 +58,9 @@ pub hundredths : (l : List Blank) (t : Number) (rest : List ℕ) → InDomain t
     × Hundredth (exactly t) (div binary64 (double (exactly t)) hundred)
 hundredths l t rest d = (numbers-read .percent-front l t rest d, exactly-hundredth t d)
 
--- THEOREM (SVG 2, section 8.9; CSS Values 3, section 5). A length, after white space, is answered as its number and its unit.
+-- THEOREM (SVG 2, section 8.9; CSS Values 3, section 5). A length, after white space, is answered as its number and its unit, with whether it is an <integer> and where the number ends.
 pub lengths : (before : List Blank) (t : Length) → InDomain (t .number-of) → length (blanks before ++ lengthText t) ≤ 4096
-    → Lengths.fromStr (blanks before ++ lengthText t) ≡ LengthAnswer.Value (lengthOf t)
+    → Lengths.fromStr (blanks before ++ lengthText t) ≡ LengthAnswer.Value (lengthOf t) (numberOf (t .number-of) (length before + length (number (t .number-of))))
 lengths before t d h = length-whole numbers-read before t d h
 
 -- THEOREM (the same). In a text it is read so up to its end; if it has no unit, what follows must go on neither with the number nor as a unit.
@@ -69,9 +69,9 @@ pub length-front : (before : List Blank) (t : Length) (rest : List ℕ) → InDo
     ≡ LengthRead.Value (lengthOf t) (numberOf (t .number-of) (length before + length (number (t .number-of)))) (place (length before + length (lengthText t)))
 length-front before t rest d e = length-read numbers-read before t rest d e
 
--- THEOREM (CSS Values 3, section 6.1). An angle, after white space, is answered as its number and its unit; with none it is in degrees.
+-- THEOREM (CSS Values 3, section 6.1). An angle, after white space, is answered as its number and its unit, likewise; with none it is in degrees.
 pub angles : (before : List Blank) (t : Angle) → InDomain (t .number-of) → length (blanks before ++ angleText t) ≤ 4096
-    → Angles.fromStr (blanks before ++ angleText t) ≡ AngleAnswer.Value (angleOf t)
+    → Angles.fromStr (blanks before ++ angleText t) ≡ AngleAnswer.Value (angleOf t) (numberOf (t .number-of) (length before + length (number (t .number-of))))
 angles before t d h = angle-whole numbers-read before t d h
 
 -- THEOREM (the same). In a text it is read so up to its end; if it has no unit, what follows must go on neither with the number nor as a unit.

@@ -13,6 +13,7 @@ from-str-spec =
     (λ c. search (wholes, needs))
     (λ c κs. search needs)
     (λ c κs. search (lengths-told, needs))
+    (λ c κs. search needs)
     (λ c. search (wholes, lengths-told, needs))
     (λ c κs. search needs)
     (λ c. search needs)

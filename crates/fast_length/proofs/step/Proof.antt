@@ -22,5 +22,6 @@ step-spec =
     (λ c. search (steps, lengths-told, needs))
     (λ c κs. search needs)
     (λ c κs. search needs)
+    (λ c κs. search needs)
     (λ c. unfold nextLength in search (edges, flow, lengthed, needs) depth 20)
     (λ c. search (steps, lengths-told, needs)))

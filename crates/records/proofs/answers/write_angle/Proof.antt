@@ -15,5 +15,8 @@ write-angle-spec =
     (λ c κs. search needs)
     (λ c κs. search needs)
     (λ c κs. search needs)
+    (λ c κs. search needs)
+    (λ c. search needs)
+    (λ c. search needs)
     (λ c. search (angle-refused, needs))
     (λ c. search (angle-value, needs)))

@@ -13,5 +13,7 @@ write-length-spec =
     (λ c κs. search needs)
     (λ c κs. search needs)
     (λ c κs. search needs)
+    (λ c κs. search needs)
+    (λ c. search needs)
     (λ c. search (length-refused, needs))
     (λ c. search (length-value, needs)))

@@ -1,3 +1,4 @@
+use Rattle.records.proofs.Wholes.{length-step-value}
 use Rattle.records.specs.Records.{row, bitsOf, lengthUnit, lengthStepRecord}
 use Rattle.length.specs.Paper.{paperStep}
 use lib.Ieee.{toBits, ofBits}
@@ -17,9 +18,13 @@ write-length-step-spec =
     (λ c κs. search needs)
     (λ c κs. search needs)
     (λ c κs. search needs)
+    (λ c κs. search needs)
+    (λ c. search needs)
+    (λ c. search needs)
+    (λ c. search needs)
     (λ c. search needs)
     (λ c. unfold row lengthStepRecord paperStep bitsOf lengthUnit toBits ofBits in rw (c .before .before .before .before .before .step .given .1) (c .before .before .refused .ensures))
     (λ c. search needs)
     (λ c. unfold row lengthStepRecord paperStep bitsOf lengthUnit toBits ofBits in rw (c .before .before .before .before .before .step2 .given .1) (c .before .before .ended .ensures))
     (λ c. search needs)
-    (λ c. unfold lengthStepRecord paperStep in rw (c .before .before .before .before .before .before .before .step3 .given .1, ← c .before .before .before .length-unit .ensures, ← c .before .before .before .before .before .bits-of .ensures) (c .before .before .two .ensures)))
+    (λ c. length-step-value (c .before .before .before .before .before .before .before .before .before .before .before .before .args .out .now) (c .before .before .before .before .before .before .before .before .before .before .before .before .args .k) (c .before .before .before .before .before .before .before .before .before .step3 .given .1) (c .before .before .before .before .before .before .bits-of .ensures) (c .before .before .before .before .before .length-unit .ensures) (c .before .before .before .bit .ensures) (c .before .before .three .ensures) (c .before .before .before .before .before .before .before .before .before .before .before .before .pre)))

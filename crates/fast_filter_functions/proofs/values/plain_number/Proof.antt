@@ -1,9 +1,9 @@
-use Rattle.records.specs.Inner.{plainNumber}
+use Rattle.fast_filter_functions.specs.Kinds.{plainNumber}
 use Rattle.filter_functions.specs.Paper.{result}
 use Rattle.filter_functions.specs.Values.{plainValue}
 use borrow.Author.Needs.{needs}
-use Rattle.records.proofs.entries.plain_number.Statement.{statement}
-use Rattle.records.proofs.entries.plain_number.Tie as tie
+use Rattle.fast_filter_functions.proofs.values.plain_number.Statement.{statement}
+use Rattle.fast_filter_functions.proofs.values.plain_number.Tie as tie
 
 pub plain-number-spec : {M : Type 1} → statement M
 plain-number-spec =
