@@ -18,7 +18,10 @@
  *     9, 22           empty at the position
  *     10              from the number's first byte to the first that its form cannot take, or to the end of the text
  *     11 to 15        from the first byte of the filter's name to where reading stopped
- *     23, 24          the whole number
+ *     23, 24          all of the number
+ *
+ * A length's and an angle's own calls tell how the number was written. `whole` is 1 where neither a dot nor an exponent was (`12`, `-0`, `1em`), else 0
+ * (`12.0`, `1e0`); `end` is the place after its last byte, before the unit: 2 for `12px` and `12%`. The lengths and angles of filter values have neither.
  */
 #ifndef HOMELUDAF_H
 #define HOMELUDAF_H
@@ -137,8 +140,8 @@ struct homeludaf_answer {
     union {                                            /*  9 .. 20 */
         uint64_t entries[12];
         struct homeludaf_rgba color;
-        struct homeludaf_number length;
-        struct { struct homeludaf_number given; uint64_t degrees_bits; } angle;
+        struct { uint64_t bits, unit, whole, end; } length;
+        struct { struct homeludaf_number given; uint64_t degrees_bits, whole, end; } angle;
         struct homeludaf_part link;
         uint64_t written;                              /* bytes, of a colour that was set back */
         struct { uint64_t kind; struct homeludaf_part link; uint64_t fallback; struct homeludaf_rgba color; } paint;

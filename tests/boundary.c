@@ -6,6 +6,12 @@ _Static_assert(sizeof(struct homeludaf_answer) == 24 * sizeof(uint64_t), "24 ent
 _Static_assert(sizeof(struct homeludaf_answer) == HOMELUDAF_ENTRIES * sizeof(uint64_t), "HOMELUDAF_ENTRIES");
 _Static_assert(sizeof(struct homeludaf_told) == 2 * sizeof(uint64_t), "two numbers are told");
 _Static_assert(offsetof(struct homeludaf_answer, result) == 9 * sizeof(uint64_t), "the result starts at entry 9");
+_Static_assert(offsetof(struct homeludaf_answer, result.length.unit) == 10 * sizeof(uint64_t), "a length's unit at 10");
+_Static_assert(offsetof(struct homeludaf_answer, result.length.whole) == 11 * sizeof(uint64_t), "whether its number is whole at 11");
+_Static_assert(offsetof(struct homeludaf_answer, result.length.end) == 12 * sizeof(uint64_t), "where that ended at 12");
+_Static_assert(offsetof(struct homeludaf_answer, result.angle.degrees_bits) == 11 * sizeof(uint64_t), "an angle's degrees at 11");
+_Static_assert(offsetof(struct homeludaf_answer, result.angle.whole) == 12 * sizeof(uint64_t), "whether its number is whole at 12");
+_Static_assert(offsetof(struct homeludaf_answer, result.angle.end) == 13 * sizeof(uint64_t), "where that ended at 13");
 _Static_assert(offsetof(struct homeludaf_answer, result.paint.color) == 13 * sizeof(uint64_t), "a paint's colour at 13");
 _Static_assert(offsetof(struct homeludaf_answer, result.filter.value.shadow.colored) == 16 * sizeof(uint64_t), "whether a shadow has a colour at 16");
 _Static_assert(sizeof(((struct homeludaf_answer *)0)->result) == 12 * sizeof(uint64_t), "a result has twelve entries");
@@ -287,7 +293,7 @@ static void step_stretches(void)
         memset(&a, 0xff, sizeof a);
         step_told[i].call((const uint8_t *)step_told[i].text.at, step_told[i].text.length, step_told[i].place, &a);
         show("step's stretch", &a);
-        expect(step_told[i].text.at, tells(&a, step_told[i].code, step_told[i].from, step_told[i].to) && unused(&a, a.code == HOMELUDAF_OK ? 3 : 0));
+        expect(step_told[i].text.at, tells(&a, step_told[i].code, step_told[i].from, step_told[i].to) && unused(&a, a.state == HOMELUDAF_STATE_VALUE ? 4 : 0));
     }
 }
 
@@ -308,6 +314,141 @@ static void other_stretches(void)
     homeludaf_inherited(TEXT("inherit"), TEXT("  url(#a) rgb(1,2,x)"), &a);
     show("the parent's stretch", &a);
     expect("the parent's stretch", tells(&a, HOMELUDAF_INVALID_NUMBER, 8, 8) && a.result.inherited.whose == HOMELUDAF_WHOSE_PARENT && unused(&a, 1));
+}
+
+/* How a number was written, of a whole text; what is refused has only zeros. */
+struct written {
+    struct text text;
+    uint64_t unit, whole, end;
+};
+
+static const struct written lengths_written[] = {
+    { TEXT_OF("12"), HOMELUDAF_UNIT_NONE, 1, 2 },
+    { TEXT_OF("+12"), HOMELUDAF_UNIT_NONE, 1, 3 },
+    { TEXT_OF("-0"), HOMELUDAF_UNIT_NONE, 1, 2 },
+    { TEXT_OF("007"), HOMELUDAF_UNIT_NONE, 1, 3 },
+    { TEXT_OF(" 7"), HOMELUDAF_UNIT_NONE, 1, 2 },
+    { TEXT_OF("\t\n 7mm"), HOMELUDAF_UNIT_MM, 1, 4 },
+    { TEXT_OF("9007199254740991"), HOMELUDAF_UNIT_NONE, 1, 16 },
+    { TEXT_OF("12px"), HOMELUDAF_UNIT_PX, 1, 2 },
+    { TEXT_OF("12%"), HOMELUDAF_UNIT_PERCENT, 1, 2 },
+    { TEXT_OF("12.0"), HOMELUDAF_UNIT_NONE, 0, 4 },
+    { TEXT_OF(".5"), HOMELUDAF_UNIT_NONE, 0, 2 },
+    { TEXT_OF("-12.50%"), HOMELUDAF_UNIT_PERCENT, 0, 6 },
+    /* This `e` is the unit's. */
+    { TEXT_OF("1em"), HOMELUDAF_UNIT_EM, 1, 1 },
+    { TEXT_OF("1ex"), HOMELUDAF_UNIT_EX, 1, 1 },
+    { TEXT_OF("1.5em"), HOMELUDAF_UNIT_EM, 0, 3 },
+    { TEXT_OF("1e0"), HOMELUDAF_UNIT_NONE, 0, 3 },
+    { TEXT_OF("1e0px"), HOMELUDAF_UNIT_PX, 0, 3 },
+    { TEXT_OF("1E+2em"), HOMELUDAF_UNIT_EM, 0, 4 },
+    { TEXT_OF("1e-0ex"), HOMELUDAF_UNIT_EX, 0, 4 },
+    { TEXT_OF(""), 0, 0, 0 },
+    { TEXT_OF("x"), 0, 0, 0 },
+    { TEXT_OF("1."), 0, 0, 0 },
+    { TEXT_OF("12px "), 0, 0, 0 },
+    { TEXT_OF("12 "), 0, 0, 0 },
+    { TEXT_OF("1Em"), 0, 0, 0 },
+    { TEXT_OF("9007199254740992"), 0, 0, 0 },
+    { TEXT_OF("1e23"), 0, 0, 0 },
+    { TEXT_OF("12\xff"), 0, 0, 0 },
+};
+
+static const struct written angles_written[] = {
+    { TEXT_OF("90"), HOMELUDAF_ANGLE_DEGREES, 1, 2 },
+    { TEXT_OF(" -90deg"), HOMELUDAF_ANGLE_DEGREES, 1, 4 },
+    { TEXT_OF("0.5turn"), HOMELUDAF_ANGLE_TURNS, 0, 3 },
+    { TEXT_OF("100grad"), HOMELUDAF_ANGLE_GRADIANS, 1, 3 },
+    { TEXT_OF("1e0rad"), HOMELUDAF_ANGLE_RADIANS, 0, 3 },
+    { TEXT_OF("1.0"), HOMELUDAF_ANGLE_DEGREES, 0, 3 },
+    { TEXT_OF(" "), 0, 0, 0 },
+    { TEXT_OF("1.deg"), 0, 0, 0 },
+    { TEXT_OF("90 deg"), 0, 0, 0 },
+    { TEXT_OF("90em"), 0, 0, 0 },
+};
+
+/* The answer's unit and two facts are those of `w`; a value has `used` entries. */
+static int is_written(const struct homeludaf_answer *a, const struct written *w, uint64_t unit, uint64_t whole, uint64_t end, size_t used)
+{
+    const int value = a->code == HOMELUDAF_OK;
+    return value == (w->end != 0) && unit == w->unit && whole == w->whole && end == w->end && unused(a, value ? used : 0);
+}
+
+static void whole_written(void)
+{
+    struct homeludaf_answer a;
+    for (size_t i = 0; i < COUNT(lengths_written); i++) {
+        const struct written *w = &lengths_written[i];
+        memset(&a, 0xff, sizeof a);
+        homeludaf_length((const uint8_t *)w->text.at, w->text.length, &a);
+        show("length written", &a);
+        expect(w->text.at, is_written(&a, w, a.result.length.unit, a.result.length.whole, a.result.length.end, 4));
+    }
+    for (size_t i = 0; i < COUNT(angles_written); i++) {
+        const struct written *w = &angles_written[i];
+        memset(&a, 0xff, sizeof a);
+        homeludaf_angle((const uint8_t *)w->text.at, w->text.length, &a);
+        show("angle written", &a);
+        expect(w->text.at, is_written(&a, w, a.result.angle.given.unit, a.result.angle.whole, a.result.angle.end, 5));
+    }
+}
+
+/* The same of a list's steps: the end counts from the text's start, wherever a step begins. The list's end has 0 and 0, too. */
+static const struct {
+    struct text text;
+    size_t place;
+    uint64_t state, list_place, whole, end;
+} steps_written[] = {
+    { TEXT_OF(lengths), 0, HOMELUDAF_STATE_VALUE, 3, 1, 2 },
+    { TEXT_OF(lengths), 3, HOMELUDAF_STATE_VALUE, 8, 1, 5 },
+    { TEXT_OF(lengths), 8, HOMELUDAF_STATE_VALUE, 11, 1, 10 },
+    { TEXT_OF(lengths), 11, HOMELUDAF_STATE_END, 11, 0, 0 },
+    { TEXT_OF(""), 0, HOMELUDAF_STATE_END, 0, 0, 0 },
+    { TEXT_OF("1.0em ,1em"), 0, HOMELUDAF_STATE_VALUE, 7, 0, 3 },
+    { TEXT_OF("1.0em ,1em"), 7, HOMELUDAF_STATE_VALUE, 10, 1, 8 },
+    { TEXT_OF("1.0em ,1em"), 2, HOMELUDAF_STATE_VALUE, 7, 1, 3 },
+    { TEXT_OF("7-.5 1e1"), 0, HOMELUDAF_STATE_VALUE, 1, 1, 1 },
+    { TEXT_OF("7-.5 1e1"), 1, HOMELUDAF_STATE_VALUE, 5, 0, 4 },
+    { TEXT_OF("7-.5 1e1"), 4, HOMELUDAF_STATE_VALUE, 8, 0, 8 },
+    { TEXT_OF("1 x"), 2, HOMELUDAF_STATE_REFUSED, 3, 0, 0 },
+    { TEXT_OF("1 2."), 2, HOMELUDAF_STATE_REFUSED, 4, 0, 0 },
+    { TEXT_OF("1"), 2, HOMELUDAF_STATE_REFUSED, 2, 0, 0 },
+};
+
+static void step_written(void)
+{
+    for (size_t i = 0; i < COUNT(steps_written); i++) {
+        struct homeludaf_answer a;
+        memset(&a, 0xff, sizeof a);
+        homeludaf_length_next((const uint8_t *)steps_written[i].text.at, steps_written[i].text.length, steps_written[i].place, &a);
+        show("step written", &a);
+        expect(steps_written[i].text.at, a.state == steps_written[i].state && a.list_place == steps_written[i].list_place
+                                             && a.result.length.whole == steps_written[i].whole && a.result.length.end == steps_written[i].end);
+        expect(steps_written[i].text.at, unused(&a, a.state == HOMELUDAF_STATE_VALUE ? 4 : 0));
+    }
+}
+
+/* A filter's lengths and angles do not tell it: each has two entries, and behind them stands the next part, or 0. */
+static void filters_unwritten(void)
+{
+    struct homeludaf_answer a;
+
+    memset(&a, 0xff, sizeof a);
+    homeludaf_filter_next(TEXT("blur(2px)"), 0, &a);
+    expect("blur, unused entries", a.result.filter.value.blur.unit == HOMELUDAF_UNIT_PX && unused(&a, 3));
+
+    memset(&a, 0xff, sizeof a);
+    homeludaf_filter_next(TEXT("hue-rotate(9turn)"), 0, &a);
+    expect("hue-rotate, unused entries", a.result.filter.value.hue_rotate.unit == HOMELUDAF_ANGLE_TURNS && unused(&a, 3));
+
+    memset(&a, 0xff, sizeof a);
+    homeludaf_filter_next(TEXT("drop-shadow(1 2em 3px)"), 0, &a);
+    show("shadow", &a);
+    expect("shadow's lengths", homeludaf_double(a.result.filter.value.shadow.dx.bits) == 1.0 && a.result.filter.value.shadow.dx.unit == HOMELUDAF_UNIT_NONE
+                                   && homeludaf_double(a.result.filter.value.shadow.dy.bits) == 2.0 && a.result.filter.value.shadow.dy.unit == HOMELUDAF_UNIT_EM
+                                   && homeludaf_double(a.result.filter.value.shadow.deviation.bits) == 3.0
+                                   && a.result.filter.value.shadow.deviation.unit == HOMELUDAF_UNIT_PX);
+    expect("shadow, unused entries", unused(&a, 7));
 }
 
 static void packed_numbers(void)
@@ -439,6 +580,9 @@ int main(void)
     whole_stretches();
     step_stretches();
     other_stretches();
+    whole_written();
+    step_written();
+    filters_unwritten();
     packed_numbers();
     set_back();
     length_steps();

@@ -1,7 +1,8 @@
 /* Answers cases over the archive, by the line protocol of the runs (docs/RUNS.md): one case a line in, one answer a line out.
  *
  *     lines base        the cases of the program `replay`, with the same answers: 9 for 22, 10 for 23 and 24
- *     lines             these with every refusal's own number and its stretch, and the writers of colours (document 02)
+ *     lines             these with every refusal's own number and its stretch and with how a length's and an angle's number was written, and
+ *                       the writers of colours (document 02)
  *
  * A case is a call and its operands, one space between: a text is its bytes, two lower-case hex digits each, `-` for none; a number is decimal.
  * A line that is no case gets the answer `?` alone. */
@@ -155,6 +156,22 @@ static void put_angle(struct homeludaf_number angle)
     put_word(NAMED(angle_units, angle.unit));
 }
 
+/* How a number was written, which document 01 does not ask of it. */
+static void put_written(uint64_t whole, uint64_t end)
+{
+    if (!base) {
+        put_number(whole);
+        put_number(end);
+    }
+}
+
+/* A length that is no part of a filter value. */
+static void put_own_length(const struct homeludaf_answer *a)
+{
+    put_length((struct homeludaf_number){ a->result.length.bits, a->result.length.unit });
+    put_written(a->result.length.whole, a->result.length.end);
+}
+
 static void answer_color(const struct operands *o)
 {
     struct homeludaf_answer a = unfilled();
@@ -168,7 +185,7 @@ static void answer_length(const struct operands *o)
     struct homeludaf_answer a = unfilled();
     homeludaf_length(o->texts[0].at, o->texts[0].length, &a);
     put_refusal(&a, o->texts[0]);
-    put_length(a.result.length);
+    put_own_length(&a);
 }
 
 static void answer_lengths(const struct operands *o)
@@ -177,7 +194,7 @@ static void answer_lengths(const struct operands *o)
     homeludaf_length_next(o->texts[0].at, o->texts[0].length, o->place, &a);
     put_refusal(&a, o->texts[0]);
     put_step(&a);
-    put_length(a.result.length);
+    put_own_length(&a);
 }
 
 static void answer_angle(const struct operands *o)
@@ -187,6 +204,7 @@ static void answer_angle(const struct operands *o)
     put_refusal(&a, o->texts[0]);
     put_angle(a.result.angle.given);
     put_bits(a.result.angle.degrees_bits);
+    put_written(a.result.angle.whole, a.result.angle.end);
 }
 
 static void put_link(const struct homeludaf_answer *a, struct bytes text)
