@@ -2,7 +2,7 @@
 
 use crate::boundary::{self, Room};
 use crate::record::{Record, RESULT};
-use crate::{Error, Refusal};
+use crate::{Error, Refusal, Written};
 
 /// List of all SVG angle units.
 #[derive(Clone, Copy, PartialEq, Eq, Debug)]
@@ -57,17 +57,37 @@ impl Angle {
     /// ```
     #[inline]
     pub fn read(text: &str) -> Result<Self, Refusal> {
-        Self::parse(text, Refusal::of)
+        Self::parse(text, angle_of, Refusal::of)
+    }
+
+    /// Parses as `read` does, and tells how the number was written: once read, `90` and `90.0` look
+    /// alike.
+    ///
+    /// ```
+    /// use homeludaf::Angle;
+    ///
+    /// let [plain, dotted] = ["90deg", "90.0deg"].map(|text| Angle::written(text).unwrap());
+    /// assert_eq!(plain.value, dotted.value);
+    /// assert_eq!((plain.whole, plain.end), (true, 2));
+    /// assert_eq!((dotted.whole, dotted.end), (false, 4));
+    /// ```
+    #[inline]
+    pub fn written(text: &str) -> Result<Written<Self>, Refusal> {
+        Self::parse(text, written_of, Refusal::of)
     }
 
     #[inline(always)]
-    fn parse<E>(text: &str, refused: impl Fn(&Record, &str) -> E) -> Result<Self, E> {
+    fn parse<T, E>(
+        text: &str,
+        value: impl Fn(&Record) -> T,
+        refused: impl Fn(&Record, &str) -> E,
+    ) -> Result<T, E> {
         let mut room = Room::new();
         let record = boundary::angle(text, &mut room);
         if record.is_refused() {
             return Err(refused(record, text));
         }
-        Ok(record.angle(RESULT))
+        Ok(value(record))
     }
 }
 
@@ -77,8 +97,21 @@ impl std::str::FromStr for Angle {
     /// Parses an angle. Units are lower case; spaces may stand before it and not after it.
     #[inline]
     fn from_str(text: &str) -> Result<Self, Error> {
-        Self::parse(text, Error::of)
+        Self::parse(text, angle_of, Error::of)
     }
+}
+
+/// The first of the two entries, after the degrees, that say how an angle's number was written.
+const WRITTEN: usize = RESULT + 3;
+
+#[inline(always)]
+fn written_of(record: &Record) -> Written<Angle> {
+    record.written(WRITTEN, angle_of(record))
+}
+
+#[inline(always)]
+fn angle_of(record: &Record) -> Angle {
+    record.angle(RESULT)
 }
 
 #[cfg(test)]

@@ -3,7 +3,7 @@
 use crate::boundary::{self, Ahead, Room};
 use crate::list::Walk;
 use crate::record::{Record, RESULT};
-use crate::{Error, Refusal};
+use crate::{Error, Refusal, Written};
 
 /// List of all SVG length units.
 #[derive(Clone, Copy, PartialEq, Eq, Debug)]
@@ -64,17 +64,37 @@ impl Length {
     /// ```
     #[inline]
     pub fn read(text: &str) -> Result<Self, Refusal> {
-        Self::parse(text, Refusal::of)
+        Self::parse(text, length_of, Refusal::of)
+    }
+
+    /// Parses as `read` does, and tells how the number was written: once read, `12` and `12.0` look
+    /// alike.
+    ///
+    /// ```
+    /// use homeludaf::Length;
+    ///
+    /// let [plain, dotted] = ["12%", "12.0%"].map(|text| Length::written(text).unwrap());
+    /// assert_eq!(plain.value, dotted.value);
+    /// assert_eq!((plain.whole, plain.end), (true, 2));
+    /// assert_eq!((dotted.whole, dotted.end), (false, 4));
+    /// ```
+    #[inline]
+    pub fn written(text: &str) -> Result<Written<Self>, Refusal> {
+        Self::parse(text, written_of, Refusal::of)
     }
 
     #[inline(always)]
-    fn parse<E>(text: &str, refused: impl Fn(&Record, &str) -> E) -> Result<Self, E> {
+    fn parse<T, E>(
+        text: &str,
+        value: impl Fn(&Record, &str) -> T,
+        refused: impl Fn(&Record, &str) -> E,
+    ) -> Result<T, E> {
         let mut room = Room::new();
         let record = boundary::length(text, &mut room);
         if record.is_refused() {
             return Err(refused(record, text));
         }
-        Ok(record.length(RESULT))
+        Ok(value(record, text))
     }
 }
 
@@ -91,7 +111,7 @@ impl std::str::FromStr for Length {
     /// Parses a length. Units are lower case; spaces may stand before it and not after it.
     #[inline]
     fn from_str(text: &str) -> Result<Self, Error> {
-        Self::parse(text, Error::of)
+        Self::parse(text, length_of, Error::of)
     }
 }
 
@@ -127,6 +147,21 @@ impl<'a> LengthListParser<'a> {
     pub fn read(text: &'a str) -> LengthListReader<'a> {
         LengthListReader(Walk::new(text))
     }
+
+    /// The same lengths as by `read`, each with how its number was written; the end counts from the
+    /// list's first byte.
+    ///
+    /// ```
+    /// use homeludaf::LengthListParser;
+    ///
+    /// let list = LengthListParser::written("10px, 2.0 1em").map(Result::unwrap);
+    /// let told: Vec<(bool, usize)> = list.map(|written| (written.whole, written.end)).collect();
+    /// assert_eq!(told, [(true, 2), (false, 9), (true, 11)]);
+    /// ```
+    #[inline]
+    pub fn written(text: &'a str) -> WrittenLengthListReader<'a> {
+        WrittenLengthListReader(Walk::new(text))
+    }
 }
 
 impl<'a> From<&'a str> for LengthListParser<'a> {
@@ -156,6 +191,28 @@ impl Iterator for LengthListReader<'_> {
     fn next(&mut self) -> Option<Self::Item> {
         self.0.next(Ahead::lengths, length_of, Refusal::of)
     }
+}
+
+/// A [`LengthListReader`] that tells how each number was written: what [`LengthListParser::written`]
+/// gives.
+#[derive(Clone, Copy, PartialEq, Eq, Debug)]
+pub struct WrittenLengthListReader<'a>(Walk<'a>);
+
+impl Iterator for WrittenLengthListReader<'_> {
+    type Item = Result<Written<Length>, Refusal>;
+
+    #[inline]
+    fn next(&mut self) -> Option<Self::Item> {
+        self.0.next(Ahead::lengths, written_of, Refusal::of)
+    }
+}
+
+/// The first of the two entries, after a length's own, that say how its number was written.
+const WRITTEN: usize = RESULT + 2;
+
+#[inline(always)]
+fn written_of(record: &Record, text: &str) -> Written<Length> {
+    record.written(WRITTEN, length_of(record, text))
 }
 
 #[inline(always)]

@@ -13,8 +13,9 @@
 //!
 //! What svgtypes lacks: `read`, beside each type's `from_str` and each list's `from`, which gives the
 //! whole [`Refusal`] in the place of an error, with the stretch of the text that is refused, and shows
-//! it in a sentence; and a colour as text, by [`Color::hex`], [`Color::hex_short`] and
-//! [`Color::keyword`].
+//! it in a sentence; `written`, of lengths, their lists and angles, which also tells whether the number
+//! was written whole, and where it ended: [`Written`]; and a colour as text, by [`Color::hex`],
+//! [`Color::hex_short`] and [`Color::keyword`].
 //!
 //! ```
 //! use homeludaf::Color;
@@ -46,6 +47,7 @@ mod packed;
 mod paint;
 mod record;
 mod refusal;
+mod written;
 
 pub use crate::angle::{Angle, AngleUnit};
 pub use crate::color::{Color, ColorText};
@@ -54,6 +56,9 @@ pub use crate::filter_functions::{
     FilterValue, FilterValueListParser, FilterValueListParserError, FilterValueListReader,
 };
 pub use crate::funciri::{FuncIRI, IRI};
-pub use crate::length::{Length, LengthListParser, LengthListReader, LengthUnit};
+pub use crate::length::{
+    Length, LengthListParser, LengthListReader, LengthUnit, WrittenLengthListReader,
+};
 pub use crate::paint::{Paint, PaintFallback};
 pub use crate::refusal::{Part, Refusal};
+pub use crate::written::Written;

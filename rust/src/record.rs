@@ -3,7 +3,7 @@
 //! The layout is stated in crates/records/specs/Records.antt, which the proofs cite, and in
 //! include/homeludaf.h.
 
-use crate::{Angle, AngleUnit, Color, Length, LengthUnit};
+use crate::{Angle, AngleUnit, Color, Length, LengthUnit, Written};
 
 /// How many numbers a record has.
 pub(crate) const ENTRIES: usize = 24;
@@ -117,6 +117,21 @@ impl Record {
             other => foreign("angle unit", other),
         };
         Angle::new(self.float(entry), unit)
+    }
+
+    /// How a value's number was written, of two entries: whether it is whole, and where it ended.
+    ///
+    /// No number ends at 0; an archive of another version may leave both entries so.
+    #[inline]
+    pub(crate) fn written<T>(&self, entry: usize, value: T) -> Written<T> {
+        Written {
+            value,
+            whole: self.kind(entry) == 1,
+            end: match self.0[entry + 1] {
+                0 => foreign("number's end", 0),
+                end => end as usize,
+            },
+        }
     }
 
     /// A part of the text, of two entries: start and length in bytes.

@@ -26,8 +26,8 @@ pub(crate) const LINK_START: &str = "url(";
 /// | 14 | [`FilterValueListParserError::MissingDropShadowOffset`] | the same |
 /// | 15 | [`FilterValueListParserError::InvalidUrl`] | the same |
 /// | 22 | no number starts here, since the text has ended: [`Error::InvalidNumber`], too | empty, here |
-/// | 23 | a number's digits, joined, make more than 9,007,199,254,740,991 | the whole number |
-/// | 24 | a number's scale, its exponent less its fraction digits, lies outside -22 to 22 | the whole number |
+/// | 23 | a number's digits, joined, make more than 9,007,199,254,740,991 | all of the number |
+/// | 24 | a number's scale, its exponent less its fraction digits, lies outside -22 to 22 | all of the number |
 ///
 /// 10, 23 and 24 are the numbers outside the domain, which svgtypes has no error for; a number that
 /// has several of these troubles is refused by the first. 2 (not UTF-8) and 3 (a bad list place)

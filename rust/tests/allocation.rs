@@ -52,6 +52,9 @@ fn none_on_the_accepting_path() {
         black_box((Color::red().hex(), Color::red().keyword()));
         black_box(Length::from_str("1.5em").unwrap());
         black_box(Angle::from_str("1rad").unwrap());
+        black_box(Length::written("1.5em").unwrap());
+        black_box(Angle::written("1rad").unwrap());
+        assert_eq!(LengthListParser::written("1 2.0").count(), 2);
         black_box(IRI::from_str("#a").unwrap());
         black_box(FuncIRI::from_str("url('#a')").unwrap());
         black_box(Paint::from_str("url(#a) Teal").unwrap());
