@@ -12,7 +12,7 @@ use Rattle.bytes.specs.Bytes.{within, isSpace, isTail}
 use Rattle.utf8.specs.Characters.{utf8Of, characters, firsts, onCharacter}
 use Rattle.bytes.specs.Moves.{place}
 use Rattle.bytes.specs.Flow.{bind}
-use Rattle.stream.specs.Refusals.{bareRefusal, admitUtf8, admitText, admitPlace, thenAdmitted}
+use Rattle.stream.specs.Refusals.{refusalOf, bareRefusal, admitUtf8, admitText, admitPlace, thenAdmitted}
 use Rattle.bytes.specs.Scan.{scan}
 use Rattle.stream.specs.declared.Admission.{Admission}
 use Rattle.stream.specs.declared.Admission.the-variants as A
@@ -235,15 +235,40 @@ refused-place s S.End r p e = let z : _≡_ {A = ℕ} 0 1 = cc in absurd (omega 
 refused-place s S.NoneWord r p e = let z : _≡_ {A = ℕ} 0 1 = cc in absurd (omega arith)
 refused-place s (S.Refused f) r p e = cc
 
--- after a refusal of a value the list is at its end
-pub next-ended : (s : List ℕ) (i : ℕ) (r : Refusal) (p : Place) → nextFilter s i ≡ O.Refused r p → 4 ≤ r .number → nextFilter s (p .0) ≡ O.End p
+end-place : (s : List ℕ) (x : StepRead) (p : Place) → (edged s x ≡ O.End p) ⊎ (edged s x ≡ O.NoneWord p) → p ≡ place (length s)
+end-place s (S.Value v q) p e = absurd (⊎-elim (λ (f : O.Value v q ≡ O.End p). let z : _≡_ {A = ℕ} 0 1 = cc in omega arith) (λ (f : O.Value v q ≡ O.NoneWord p). let z : _≡_ {A = ℕ} 0 1 = cc in omega arith) e)
+end-place s S.End p e = ⊎-elim (λ (f : O.End (place (length s)) ≡ O.End p). cc) (λ (f : O.End (place (length s)) ≡ O.NoneWord p). let z : _≡_ {A = ℕ} 0 1 = cc in absurd (omega arith)) e
+end-place s S.NoneWord p e = ⊎-elim (λ (f : O.NoneWord (place (length s)) ≡ O.End p). let z : _≡_ {A = ℕ} 0 1 = cc in absurd (omega arith)) (λ (f : O.NoneWord (place (length s)) ≡ O.NoneWord p). cc) e
+end-place s (S.Refused f) p e =
+    let x = refusalOf s f in
+    let q = place (length s) in
+    absurd (⊎-elim (λ (f : O.Refused x q ≡ O.End p). let z : _≡_ {A = ℕ} 0 1 = cc in omega arith) (λ (f : O.Refused x q ≡ O.NoneWord p). let z : _≡_ {A = ℕ} 0 1 = cc in omega arith) e)
+
+-- the end of a text that may be read is a list's end
+at-the-end : {s : List ℕ} {i : ℕ} → Admits s i → nextFilter s (length s) ≡ O.End (place (length s))
 unfolding parseStep bind
+at-the-end {s} h =
+    let k : Admits s (length s) = record { small = h .small; utf8 = h .utf8; on = on-end s } in
+    let m : scan isSpace s (length s) ≡ length s = sym (scan-end (scan-start isSpace s (length s)) (omega arith)) in
+    rw (next-edged k, m, le-leb (length s) (length s) (omega arith))
+
+-- after an end, by `none` or not, the list is at its end
+pub next-ends : (s : List ℕ) (i : ℕ) (p : Place) → (nextFilter s i ≡ O.End p) ⊎ (nextFilter s i ≡ O.NoneWord p) → nextFilter s (p .0) ≡ O.End p
+next-ends s i p e =
+    ⊎-elim
+    (λ (h : Admits s i). let q : p ≡ place (length s) = end-place s (parseStep s i) p (rw (next-edged h) at e) in rw q (at-the-end h))
+    (λ (h : Bars s i).
+    let x = h .refusal in
+    let f = rw (h .same) at e in
+    absurd (⊎-elim (λ (g : O.Refused x (place i) ≡ O.End p). let z : _≡_ {A = ℕ} 0 1 = cc in omega arith) (λ (g : O.Refused x (place i) ≡ O.NoneWord p). let z : _≡_ {A = ℕ} 0 1 = cc in omega arith) f))
+    (judged s i)
+
+-- and after a refusal of a value
+pub next-ended : (s : List ℕ) (i : ℕ) (r : Refusal) (p : Place) → nextFilter s i ≡ O.Refused r p → 4 ≤ r .number → nextFilter s (p .0) ≡ O.End p
 next-ended s i r p e l =
     ⊎-elim
     (λ (h : Admits s i).
     let q : p ≡ place (length s) = refused-place s (parseStep s i) r p (sym (next-edged h) ∙ e) in
-    let k : Admits s (length s) = record { small = h .small; utf8 = h .utf8; on = on-end s } in
-    let m : scan isSpace s (length s) ≡ length s = sym (scan-end (scan-start isSpace s (length s)) (omega arith)) in
-    rw (q, next-edged k, m, le-leb (length s) (length s) (omega arith)))
+    rw q (at-the-end h))
     (λ (h : Bars s i). let m : r ≡ h .refusal = cc in absurd (omega (arith, ap (λ x. x .number) m, h .few)))
     (judged s i)

@@ -1,6 +1,7 @@
 pub mod Laws
 pub mod Edge
 pub mod Lists
+pub mod Values
 pub mod Whole
 pub mod Worked
 pub mod Shut

@@ -1,5 +1,5 @@
 -- Demand 3 of the outside step, from the laws of the inside step.
-use Prim.Native.Nat.{ℕ, zero, suc, _+_, _*_, _-_, _≤_}
+use Prim.Native.Nat.{ℕ, zero, suc, _+_, _*_, _-_, _≤_, _/_}
 use mathlib.Core.List.{List, [], _∷_, _++_, map, map-append, map-map}
 use mathlib.Core.Path.{_≡_, refl, sym, ap, _∙_}
 use native.Mathlib.Nat.{le-div-iff-mul-le}
@@ -17,9 +17,9 @@ use Rattle.filter_functions.specs.declared.FilterStep.{FilterStep}
 use Rattle.filter_functions.specs.declared.FilterStep.the-variants as O
 use Rattle.filter_functions.specs.declared.FilterValue.{FilterValue}
 use Rattle.filter_functions.specs.declared.FilterValue.the-variants as G
-use Rattle.joins.specs.Joins.{Next, follow, from, answers, values, moveStep, passing, Join, moveResult, moveRecord, passRecord, JoinRecords, Bound, listPlace, further, AtItsEnd}
+use Rattle.joins.specs.Joins.{Next, follow, from, answers, values, moveStep, passing, Join, moveResult, moveRecord, passRecord, JoinRecords, Bound, listPlace, further, AtItsEnd, EndsForGood, Reaches}
 use Rattle.joins.proofs.Laws.{StepLaws}
-use Rattle.joins.proofs.Edge.{next-six, next-inside, next-more, next-passing, next-again, next-seam, next-shift, next-ended}
+use Rattle.joins.proofs.Edge.{next-six, next-inside, next-more, next-passing, next-again, next-seam, next-shift, next-ended, next-ends}
 
 -- at its end
 
@@ -27,6 +27,11 @@ pub at-its-end : AtItsEnd nextFilter
 unfolding further listPlace
 at-its-end s i zero r p e l = next-ended s i r p e l
 at-its-end s i (suc k) r p e l = rw (next-ended s i r p e l) (at-its-end s i k r p e l)
+
+pub ends-for-good : EndsForGood nextFilter
+unfolding further listPlace
+ends-for-good s i zero p e = next-ends s i p e
+ends-for-good s i (suc k) p e = rw (next-ends s i p e) (ends-for-good s i k p e)
 
 -- the bound
 
@@ -71,6 +76,29 @@ module _ (laws : StepLaws) where
       go (O.End p) e ih = refl
       go (O.NoneWord p) e ih = refl
       go (O.Refused r p) e ih = refl
+
+  -- all answers but the last are values
+  counted : (s : List ℕ) (k i : ℕ) → length s ≤ i + k → length (from nextFilter k s i) ≡ suc (values (from nextFilter k s i))
+  unfolding from follow values
+  counted s zero i h = go (nextFilter s i) refl
+    where
+      go : (x : FilterStep) → nextFilter s i ≡ x → 1 ≡ suc (values (x ∷ []))
+      go (O.Value v p) e = absurd (omega (arith, next-six laws s i v p e, next-inside laws s i v p e))
+      go (O.End p) e = refl
+      go (O.NoneWord p) e = refl
+      go (O.Refused r p) e = refl
+  counted s (suc k) i h = go (nextFilter s i) refl (counted s k)
+    where
+      go : (x : FilterStep) → nextFilter s i ≡ x → ((j : ℕ) → length s ≤ j + k → length (from nextFilter k s j) ≡ suc (values (from nextFilter k s j)))
+          → length (follow x (λ n. from nextFilter k s n)) ≡ suc (values (follow x (λ n. from nextFilter k s n)))
+      go (O.Value v p) e ih = ap suc (ih (p .0) (omega (arith, next-six laws s i v p e)))
+      go (O.End p) e ih = refl
+      go (O.NoneWord p) e ih = refl
+      go (O.Refused r p) e ih = refl
+
+  pub reaches : Reaches nextFilter
+  unfolding answers
+  reaches s i = let b : values (answers nextFilter s i) ≤ length s / 6 = bound s i in rw (counted s (length s) i (omega arith)) (omega (arith, b))
 
   pub answers-step : (s : List ℕ) (i : ℕ) → answers nextFilter s i ≡ follow (nextFilter s i) (answers nextFilter s)
   unfolding answers from

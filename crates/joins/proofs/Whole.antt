@@ -8,7 +8,8 @@ use Rattle.filter_functions.specs.declared.FilterStep.{FilterStep}
 use Rattle.filter_functions.specs.declared.FilterStep.the-variants as O
 use Rattle.joins.specs.Joins.{Next, follow, from, answers, Join, listPlace, further, Demand3}
 use Rattle.joins.proofs.Laws.{StepLaws}
-use Rattle.joins.proofs.Lists.{join, join-records, bound, at-its-end}
+use Rattle.joins.proofs.Values.{join-values, join-unspaced}
+use Rattle.joins.proofs.Lists.{reaches, ends-for-good, join, join-records, bound, at-its-end}
 
 module _ (returned : Next) (same : (s : List ℕ) (i : ℕ) → returned s i ≡ nextFilter s i) where
   same-from : (k : ℕ) (s : List ℕ) (i : ℕ) → from returned k s i ≡ from nextFilter k s i
@@ -39,8 +40,12 @@ module _ (returned : Next) (same : (s : List ℕ) (i : ℕ) → returned s i ≡
       record {
         joins = same-joins (join laws);
         joins-records = join-records returned (same-joins (join laws));
+        joins-values = join-values returned (same-joins (join laws));
+        joins-unspaced = join-unspaced returned (same-joins (join laws));
         bounded = λ s i. rw (same-answers s i) (bound laws s i);
+        reaches = λ s i. rw (same-answers s i) (reaches laws s i);
         ends = λ s i k r p e l. rw (same-further k s (p .0)) (at-its-end s i k r p (sym (same s i) ∙ e) l);
+        ends-for-good = λ s i k p e. rw (same-further k s (p .0)) (ends-for-good s i k p (rw (same s i) at e));
       }
 
 pub inside : StepLaws → Demand3 nextFilter

@@ -7,6 +7,7 @@
 use Prim.Native.Nat.{ℕ, zero, suc, _+_, _≤_, _/_}
 use mathlib.Core.Bool.{cond}
 use mathlib.Core.List.{List, [], _∷_, _++_, map}
+use mathlib.Core.Logic.{_⊎_}
 use mathlib.Core.Path.{_≡_}
 use lib.Dec.{eqb}
 use lib.ListN.{length}
@@ -73,6 +74,26 @@ Join next =
     (a b : List ℕ) (l : List FilterStep) (p : Place) → utf8Of a ≡ WellFormed → utf8Of b ≡ WellFormed → length (a ++ b) ≤ 4096 → answers next a 0 ≡ l ++ (O.End p ∷ [])
     → answers next (a ++ b) 0 ≡ map (passing (length a) (scan isSpace b 0)) l ++ map (moveStep (length a) (characters a)) (answers next b 0)
 
+-- the values that were handed out, in order
+unfoldable pub handed : List FilterStep → List FilterValue
+handed [] = []
+handed (O.Value v p ∷ l) = v ∷ handed l
+handed (O.End p ∷ l) = handed l
+handed (O.NoneWord p ∷ l) = handed l
+handed (O.Refused e p ∷ l) = handed l
+
+-- So of the values alone, with no exception: A's unchanged, then B's, whose links move
+abbrev pub JoinValues : Next → Type 0
+JoinValues next =
+    (a b : List ℕ) (l : List FilterStep) (p : Place) → utf8Of a ≡ WellFormed → utf8Of b ≡ WellFormed → length (a ++ b) ≤ 4096 → answers next a 0 ≡ l ++ (O.End p ∷ [])
+    → handed (answers next (a ++ b) 0) ≡ handed (answers next a 0) ++ map (moveFilterValue (length a)) (handed (answers next b 0))
+
+-- and where B begins with no space, A's answers are unchanged whole, list places too
+abbrev pub JoinUnspaced : Next → Type 0
+JoinUnspaced next =
+    (a b : List ℕ) (l : List FilterStep) (p : Place) → utf8Of a ≡ WellFormed → utf8Of b ≡ WellFormed → length (a ++ b) ≤ 4096 → answers next a 0 ≡ l ++ (O.End p ∷ [])
+    → scan isSpace b 0 ≡ 0 → answers next (a ++ b) 0 ≡ l ++ map (moveStep (length a) (characters a)) (answers next b 0)
+
 -- The same of document 01's records: `records` is all that a list answers as such
 abbrev pub records : Next → List ℕ → ℕ → List PaperStep
 records next s i = map paperStep (answers next s i)
@@ -106,6 +127,10 @@ JoinRecords next =
 abbrev pub Bound : Next → Type 0
 Bound next = (s : List ℕ) (i : ℕ) → values (answers next s i) ≤ length s / 6
 
+-- so that n / 6 answers and one more always reach its end or its refusal: 683 at 4,096 bytes
+abbrev pub Reaches : Next → Type 0
+Reaches next = (s : List ℕ) (i : ℕ) → length (answers next s i) ≤ suc (length s / 6)
+
 -- the list place that comes with an answer, and the answer of the step after k further steps
 unfoldable pub listPlace : FilterStep → ℕ
 listPlace (O.Value v p) = p .0
@@ -121,6 +146,10 @@ further next (suc k) s i = further next k s (listPlace (next s i))
 abbrev pub AtItsEnd : Next → Type 0
 AtItsEnd next = (s : List ℕ) (i k : ℕ) (e : Refusal) (p : Place) → next s i ≡ O.Refused e p → 4 ≤ e .number → further next k s (p .0) ≡ O.End p
 
+-- And so after an end, by `none` or not: a caller who asks on after any answer that is no value gets no more of them
+abbrev pub EndsForGood : Next → Type 0
+EndsForGood next = (s : List ℕ) (i k : ℕ) (p : Place) → (next s i ≡ O.End p) ⊎ (next s i ≡ O.NoneWord p) → further next k s (p .0) ≡ O.End p
+
 -- Of what single calls return, `alone` on the one list and `both` on the two: a value of A is returned again,
 abbrev pub Unchanged : ℕ → ℕ → FilterStep → FilterStep → Type 0
 Unchanged n k alone both = (v : FilterValue) (p : Place) → alone ≡ O.Value v p → both ≡ passing n k alone
@@ -133,5 +162,9 @@ Meets n k ended alone both = (p : Place) → ended ≡ O.End p → both ≡ move
 pub record Demand3 (next : Next) : Type 0 where
   pub joins : Join next
   pub joins-records : JoinRecords next
+  pub joins-values : JoinValues next
+  pub joins-unspaced : JoinUnspaced next
   pub bounded : Bound next
+  pub reaches : Reaches next
   pub ends : AtItsEnd next
+  pub ends-for-good : EndsForGood next
