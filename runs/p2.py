@@ -10,12 +10,12 @@ p2.py sample CASES ANSWERS COUNT SEED CASES-OUT ANSWERS-OUT
 
 A stretch is worked out from the oracle's number and position where these say it. Where they do not (5, and what a paint swallows) the text is read
 once more, by a small reader of colours and links; wherever the oracle tells a number or a position, that reader is held to it."""
-import collections
+import functools
 import itertools
 import random
 import re
-import sys
 
+import statement
 from p8 import BIG, WHITE, field, line, split
 
 LIMIT = 4096
@@ -429,56 +429,17 @@ def byte_kind(text, at):
     return "end" if not c else "a" if c.isalpha() else " " if c.isspace() else c if c in b"#'\".()" else "1" if c in b"0123456789+-" else "x"
 
 
-def kind(case, fields):
-    """What tells answers apart, first coarsely (the call, the text at hand, whose it is, the number), then by bytes about the stretch and the filter's name."""
+def kinds(case, fields):
+    """What tells answers apart: a group, none for a long text, and a kind, first coarsely (the call, the text at hand, whose it is, the number), then by bytes about the stretch and the filter's name."""
     call, text, place = judged(case, fields)
     refused, begin, end = int(fields[0]), int(fields[6]), int(fields[7])
     coarse = (case.split(" ")[0], call, refused, *(w for w in fields if w in ("own", "parent")))
     if len(text) > 200:
-        return ("long", refused), ()
+        return None, [("long", refused)]
     about = {5: [begin - 1, begin], 6: [begin], 7: [begin], 9: [begin], 10: [end - 1, end], 11: [end], 12: [end - 1, end], 13: [end]}.get(refused, [])
     name = WORD.match(text, past(SPACES, text, place)).group() if refused in (0, 10, 11, 12, 23, 24) and call == "filter" else b""
-    return coarse, (fields[4], *(byte_kind(text, at) for at in about), name, begin > 0)
-
-
-def sample(cases_path, answers_path, count, seed, cases_out, answers_out):
-    with open(cases_path) as a, open(answers_path) as b:
-        pairs = list(zip(a.read().split("\n")[:-1], b.read().split("\n")[:-1], strict=True))
-    order = list(range(len(HAND), len(pairs)))
-    random.Random(seed).shuffle(order)
-    groups, shortest = collections.defaultdict(list), {}
-    for i in order:
-        k = kind(pairs[i][0], pairs[i][1].split(" "))
-        if k[0][0] != "long":
-            groups[k[0]].append(i)
-        shortest[k] = min(i, shortest.get(k, i), key=lambda i: (len(pairs[i][0]), i))
-    taken = {*range(len(HAND)), *shortest.values()}
-    for i in itertools.chain.from_iterable(itertools.zip_longest(*groups.values())):
-        if len(taken) < count and i is not None:
-            taken.add(i)
-    with open(cases_out, "w") as a, open(answers_out, "w") as b:
-        for i in sorted(taken):
-            a.write(pairs[i][0] + "\n")
-            b.write(pairs[i][1] + "\n")
-    return 0
-
-
-def main(mode, *args):
-    if mode == "hand":
-        return hand(args[0])
-    if mode == "sample":
-        return sample(args[0], args[1], int(args[2]), int(args[3]), args[4], args[5])
-    if mode == "cases":
-        for case in cases(*map(int, args)):
-            print(case)
-        return 0
-    with open(args[0]) as a, open(args[1]) as b:
-        for case, answer in zip(a, b, strict=True):
-            print(stretch(case.rstrip("\n"), answer.rstrip("\n")))
-    return 0
+    return coarse, [(fields[4], *(byte_kind(text, at) for at in about), name, begin > 0)]
 
 
 if __name__ == "__main__":
-    if [sys.argv[1:2], len(sys.argv)] not in ([["cases"], 5], [["stretch"], 4], [["hand"], 3], [["sample"], 8]):
-        sys.exit(__doc__)
-    sys.exit(main(*sys.argv[1:]))
+    statement.run(__doc__, {"cases": (3, statement.cases(cases)), "stretch": (2, functools.partial(statement.answers, stretch)), "hand": (1, hand), "sample": (6, functools.partial(statement.sample, len(HAND), kinds))})

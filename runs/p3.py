@@ -12,13 +12,13 @@ p3.py sample CASES ANSWERS COUNT SEED CASES-OUT ANSWERS-OUT
 
 PLAIN and ENDED are read off the text, by document 01's form of a number. The oracle tells which texts are accepted; its value, its unit and its list
 place are held to the piece that was read off."""
-import collections
+import functools
 import itertools
 import random
 import re
 import struct
-import sys
 
+import statement
 from p2 import ILL, LAST, LIMIT, raw
 from p8 import BIG, line
 
@@ -256,46 +256,5 @@ def kinds(case, fields):
     return (call, unit, fields[-2]), [(*before, dot, first, exponent), (found.group()[:1] in b"+-" and found.group()[:1],)]
 
 
-def sample(cases_path, answers_path, count, seed, cases_out, answers_out):
-    with open(cases_path) as a, open(answers_path) as b:
-        pairs = list(zip(a.read().split("\n")[:-1], b.read().split("\n")[:-1], strict=True))
-    by_hand = len(HAND + SAME)
-    order = list(range(by_hand, len(pairs)))
-    random.Random(seed).shuffle(order)
-    groups, shortest = collections.defaultdict(list), {}
-    for i in order:
-        coarse, fine = kinds(pairs[i][0], pairs[i][1].split(" "))
-        if coarse:
-            groups[coarse].append(i)
-        for k in fine:
-            shortest[coarse, k] = min(i, shortest.get((coarse, k), i), key=lambda i: (len(pairs[i][0]), i))
-    taken = {*range(by_hand), *shortest.values()}
-    for i in itertools.chain.from_iterable(itertools.zip_longest(*groups.values())):
-        if len(taken) < count and i is not None:
-            taken.add(i)
-    with open(cases_out, "w") as a, open(answers_out, "w") as b:
-        for i in sorted(taken):
-            a.write(pairs[i][0] + "\n")
-            b.write(pairs[i][1] + "\n")
-    return 0
-
-
-def main(mode, *args):
-    if mode == "hand":
-        return hand(args[0])
-    if mode == "sample":
-        return sample(args[0], args[1], int(args[2]), int(args[3]), args[4], args[5])
-    if mode == "cases":
-        for case in cases(*map(int, args)):
-            print(case)
-        return 0
-    with open(args[0]) as a, open(args[1]) as b:
-        for case, answer in zip(a, b, strict=True):
-            print(written(case.rstrip("\n"), answer.rstrip("\n")))
-    return 0
-
-
 if __name__ == "__main__":
-    if [sys.argv[1:2], len(sys.argv)] not in ([["cases"], 5], [["written"], 4], [["hand"], 3], [["sample"], 8]):
-        sys.exit(__doc__)
-    sys.exit(main(*sys.argv[1:]))
+    statement.run(__doc__, {"cases": (3, statement.cases(cases)), "written": (2, functools.partial(statement.answers, written)), "hand": (1, hand), "sample": (6, functools.partial(statement.sample, len(HAND + SAME), kinds))})

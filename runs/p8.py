@@ -5,10 +5,12 @@ p8.py cases MOST COUNT SEED     writes cases: the order's smallest inputs, then 
                                 a number may stand, then COUNT damaged copies of such texts
 p8.py split CASES ORACLE        writes what `lines` is to answer: the oracle's answers, 9 and 10 split by the text at their position
 p8.py hand ANSWERS              holds the first answers to those written below by hand"""
+import functools
 import itertools
 import random
 import re
-import sys
+
+import statement
 
 WHITE = "".join(chr(c) for c in [9, 10, 11, 12, 13, 0x20, 0x85, 0xA0, 0x1680, *range(0x2000, 0x200B), 0x2028, 0x2029, 0x202F, 0x205F, 0x3000])
 BIG = "9007199254740992"
@@ -135,20 +137,5 @@ def hand(path):
     return 1 if wrong else 0
 
 
-def main(mode, *args):
-    if mode == "hand":
-        return hand(args[0])
-    if mode == "cases":
-        for case in cases(*map(int, args)):
-            print(case)
-        return 0
-    with open(args[0]) as a, open(args[1]) as b:
-        for case, answer in zip(a, b, strict=True):
-            print(split(case.rstrip("\n"), answer.rstrip("\n")))
-    return 0
-
-
 if __name__ == "__main__":
-    if [sys.argv[1:2], len(sys.argv)] not in ([["cases"], 5], [["split"], 4], [["hand"], 3]):
-        sys.exit(__doc__)
-    sys.exit(main(*sys.argv[1:]))
+    statement.run(__doc__, {"cases": (3, statement.cases(cases)), "split": (2, functools.partial(statement.answers, split)), "hand": (1, hand)})

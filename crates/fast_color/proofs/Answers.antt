@@ -1,7 +1,7 @@
 -- The number of a whole text's answer, by what is read at its start.
 use Prim.Native.Nat.{ℕ, _+_, _*_, _/_, _%_, _≤_, _<_}
 use mathlib.Core.Bool.{Bool, true, false, _||_, true≢false}
-use mathlib.Core.List.{List, [], _∷_}
+use mathlib.Core.List.{List, []}
 use mathlib.Core.Path.{_≡_, refl, sym, ap, _∙_}
 use native.Mathlib.Omega.{arith}
 use borrow.Author.Tests.{le-ltb, lt-leb, ltb-false, eq-eqb}
@@ -11,19 +11,16 @@ use mir.Syntax.{w64}
 use mir.Val.{Fits}
 use Rattle.bytes.specs.Moves.{place}
 use Rattle.bytes.specs.Bytes.{isSpace}
-use Rattle.stream.specs.Faults.{unexpectedEnd, invalidValue}
-use Rattle.utf8.specs.Characters.{isAscii, utf8Of}
+use Rattle.stream.specs.Faults.{invalidValue}
+use Rattle.utf8.specs.Characters.{utf8Of}
 use Rattle.bytes.specs.Flow.{bind}
 use Rattle.stream.specs.Refusals.{numberOf, refusalOf, admitText}
 use Rattle.bytes.specs.Scan.{run, scan}
-use Rattle.stream.specs.declared.Admission.{Admission}
 use Rattle.stream.specs.declared.Admission.the-variants as M
-use Rattle.stream.specs.declared.Fault.{Fault}
 use Rattle.stream.specs.declared.Refusal.{Refusal}
 use Rattle.utf8.specs.declared.Utf8.{Utf8}
 use Rattle.utf8.specs.declared.Utf8.the-variants.{WellFormed}
 use Rattle.stream.proofs.Edges.{admit-good}
-use Rattle.utf8.proofs.Walks.{ascii-utf8}
 use Rattle.bytes.proofs.Parts.{rest-part}
 use Rattle.bytes.proofs.Scans.{scan-start, scan-end, scan-inside}
 use Rattle.color.specs.Answer.{fromStr}

@@ -1,8 +1,7 @@
 -- Refusals by their numbers: 4 and 5 tell nothing else but an empty stretch, every number is small, and every stretch starts below the number of places.
-use Prim.Native.Nat.{ℕ, _+_, _≤_, _<_}
-use mathlib.Core.Bool.{true, false, cond}
+use Prim.Native.Nat.{ℕ, _≤_, _<_}
 use mathlib.Core.List.{List}
-use mathlib.Core.Path.{_≡_, refl, sym, ap, _∙_}
+use mathlib.Core.Path.{_≡_, refl}
 use native.Mathlib.Omega.{arith}
 use borrow.Author.Tests.{leb-true}
 use lib.Dec.{leb}
@@ -26,7 +25,6 @@ use Rattle.color.proofs.Stretches.{text-lies}
 use Rattle.color.specs.Answer.{fromStr}
 use Rattle.color.specs.Color.{parseColorText}
 use Rattle.color.specs.Moves.{thenColor}
-use Rattle.color.specs.declared.ColorAnswer.{ColorAnswer}
 use Rattle.color.specs.declared.ColorAnswer.the-variants as A
 use Rattle.color.specs.declared.ColorRead.{ColorRead}
 use Rattle.color.specs.declared.ColorRead.the-variants as C

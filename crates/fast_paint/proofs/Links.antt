@@ -17,7 +17,7 @@ use Rattle.utf8.specs.Characters.{keeps, rowOf, lenAt, charLen, walk, utf8Of}
 use Rattle.bytes.specs.Moves.{place}
 use Rattle.stream.specs.Faults.{invalidValue, consumeByte, consumeString}
 use Rattle.bytes.specs.Flow.{bind}
-use Rattle.stream.specs.Refusals.{numberOf, refusalOf, admitUtf8, admitText, thenAdmitted}
+use Rattle.stream.specs.Refusals.{refusalOf, admitUtf8, admitText, thenAdmitted}
 use Rattle.bytes.specs.Scan.{run, scan}
 use Rattle.bytes.specs.Words.{ascii, same, startsWith, isCurrByteEq, part}
 use Rattle.stream.specs.declared.Admission.{Admission}

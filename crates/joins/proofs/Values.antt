@@ -1,25 +1,20 @@
 -- What a join leaves of single answers: the values, and A's answers where B begins with no space.
-use Prim.Native.Nat.{ℕ, zero, suc, _+_}
-use mathlib.Core.Bool.{Bool, true, false, cond}
-use mathlib.Core.List.{List, [], _∷_, _++_, map}
-use mathlib.Core.Logic.{_⊎_, ⊎-elim}
-use mathlib.Core.Path.{_≡_, refl, sym, ap, _∙_}
+use Prim.Native.Nat.{ℕ, _+_}
+use mathlib.Core.List.{List, [], _∷_, _++_, map, append-nil}
+use mathlib.Core.Path.{_≡_, refl, ap, _∙_}
 use native.Mathlib.Omega.{arith}
 use borrow.Author.Tests.{eqb-true}
 use lib.Dec.{eqb}
 use lib.ListN.{length}
 use Rattle.bytes.specs.Bytes.{isSpace}
-use Rattle.bytes.specs.Moves.{place}
 use Rattle.bytes.specs.Scan.{scan}
 use Rattle.bytes.specs.declared.Place.{Place}
 use Rattle.bytes.proofs.Ranges.{either}
 use Rattle.utf8.specs.Characters.{characters}
-use Rattle.filter_functions.specs.Filters.{nextFilter}
 use Rattle.filter_functions.specs.Moves.{moveFilterValue}
 use Rattle.filter_functions.specs.declared.FilterStep.{FilterStep}
 use Rattle.filter_functions.specs.declared.FilterStep.the-variants as O
-use Rattle.filter_functions.specs.declared.FilterValue.{FilterValue}
-use Rattle.joins.specs.Joins.{Next, answers, moveStep, passing, handed, further, listPlace, Join, JoinValues, JoinUnspaced, EndsForGood}
+use Rattle.joins.specs.Joins.{Next, answers, moveStep, passing, handed, Join, JoinValues, JoinUnspaced}
 
 handed-append : (l m : List FilterStep) → handed (l ++ m) ≡ handed l ++ handed m
 unfolding handed
@@ -45,14 +40,10 @@ handed-move n k (O.End p ∷ l) = handed-move n k l
 handed-move n k (O.NoneWord p ∷ l) = handed-move n k l
 handed-move n k (O.Refused e p ∷ l) = handed-move n k l
 
-append-none : {A : Type 0} (l : List A) → l ++ [] ≡ l
-append-none [] = refl
-append-none (x ∷ l) = ap (λ y. x ∷ y) (append-none l)
-
 -- an end hands out nothing
 handed-end : (l : List FilterStep) (p : Place) → handed (l ++ (O.End p ∷ [])) ≡ handed l
 unfolding handed
-handed-end l p = handed-append l (O.End p ∷ []) ∙ append-none (handed l)
+handed-end l p = handed-append l (O.End p ∷ []) ∙ append-nil (handed l)
 
 pub join-values : (next : Next) → Join next → JoinValues next
 join-values next f a b l p u w m e =

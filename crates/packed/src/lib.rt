@@ -129,7 +129,7 @@ pub fn number_paint(v: u64) -> Paint
     }
 }
 
-// A refusal, which a paint's or a colour's number is told in the place of.
+// A refusal, told in the place of a colour or a paint: its own number, and where its stretch starts.
 pub fn refusal_number(e: Refusal) -> u64
     requires { ⌜ e .number < 32 ⌝ }
     requires { ⌜ e .from .0 < places ⌝ }
