@@ -1,65 +1,31 @@
 #!/usr/bin/env python3
-"""examples.py [ANSWERS]: document 01's examples, and worked examples of CSS Color 3 and Filter Effects 1.
+"""examples.py [ANSWERS]: document 01's examples, worked examples of CSS Color 3 and Filter Effects 1, and the inputs of docs/DIFFERENCES.md.
 
 Without an argument it writes their cases, by the line protocol. With one it holds the answers in that file to what is written
-here, by hand from the documents: exit status 1 where any differs. A channel of an hsl colour is held to within a half of the
-exact value that the document's own algorithm gives (section 4.2.4)."""
-import struct
+here, by hand from the documents, and in differences.py, from document 01: exit status 1 where any differs. A channel of an hsl
+colour is held to within a half of the exact value that the document's own algorithm gives (section 4.2.4)."""
+import itertools
 import sys
 from fractions import Fraction
 
-
-def bits(x):
-    return struct.pack(">d", x).hex()
-
-
-def accepted(result):
-    return "0 0 0 0 0 - " + result
-
-
-def refused(code, position, result, found=0, wanted=0):
-    return f"{code} {position} 0 {found} {wanted} - {result}"
-
-
-BLACK = "0 0 0 0"
-NO_PAINT = "- 0 0 - 0 0 0 0"
-NO_LENGTH = "0000000000000000 none"
-
-
-def color(text, rgba):
-    return ("color", None, text, accepted(" ".join(map(str, rgba))))
-
-
-def no_color(text, code, position, *bytes_told):
-    return ("color", None, text, refused(code, position, BLACK, *bytes_told))
-
-
-def length(text, number, unit):
-    return ("length", None, text, accepted(f"{bits(number)} {unit}"))
-
-
-def value(text, after, words, place=0):
-    return ("filter", place, text, accepted(f"value {after} {words}"))
-
-
-def no_value(text, code, position, *bytes_told):
-    return ("filter", 0, text, refused(code, position, f"refused {len(text)}", *bytes_told))
+from differences import ROWS
+from protocol import bits, case, color, last_item, last_value, length, no, no_item, no_value, refused, shadow, value
 
 
 DOCUMENT_01 = [
-    color("#1234", (17, 34, 51, 68)), no_color("#12345", 5, 0), no_color("#1234567", 5, 0), no_color("#12", 5, 0),
-    color("rgb(20%,50,20%)", (51, 255, 51, 255)), no_color("rgb(10,20%,30)", 9, 10), no_color("rgba(0,0,0,50%)", 7, 14, 37, 41),
-    color("rgb(1,2,3,)", (1, 2, 3, 255)), no_color("rgb(1,,2,3)", 9, 7), color("rgba(0,0,0,0.5)", (0, 0, 0, 128)),
+    color("#1234", (17, 34, 51, 68)), no("color", "#12345", 5), no("color", "#1234567", 5), no("color", "#12", 5),
+    color("rgb(20%,50,20%)", (51, 255, 51, 255)), no("color", "rgb(10,20%,30)", 9, 10), no("color", "rgba(0,0,0,50%)", 7, 14, 37, 41),
+    color("rgb(1,2,3,)", (1, 2, 3, 255)), no("color", "rgb(1,,2,3)", 9, 7), color("rgba(0,0,0,0.5)", (0, 0, 0, 128)),
     color("hsl(120,100,50)", (255, 255, 255, 255)), color("hsl(359.99999,100%,50%)", (255, 0, 0, 255)),
-    no_color("", 4, 0), no_color("red)", 6, 4), ("paint", None, "url(#a) red)", refused(6, 4, NO_PAINT)), ("paint", None, "red)", refused(5, 0, NO_PAINT)),
-    ("length", None, "10px ", refused(6, 5, NO_LENGTH)), length("1em", 1.0, "em"), ("length", None, "1.", refused(10, 1, NO_LENGTH)),
-    ("lengths", 0, " ", refused(9, 2, f"refused 1 {NO_LENGTH}")), ("lengths", 0, "", accepted(f"end 0 {NO_LENGTH}")),
-    length("9007199254740991", 9007199254740991.0, "none"), ("length", None, "9007199254740992", refused(10, 1, NO_LENGTH)),
-    length("1e22", 1e22, "none"), ("length", None, "1e23", refused(10, 1, NO_LENGTH)),
+    no("color", "", 4), no("color", "red)", 6, 4), no("paint", "url(#a) red)", 6, 4), no("paint", "red)", 5),
+    no("length", "10px ", 6, 5), length("1em", 1.0, "em"), no("length", "1.", 10, 1),
+    no_item(" ", 0, 9, 2), last_item("", 0),
+    length("9007199254740991", 9007199254740991.0, "none"), no("length", "9007199254740992", 10, 1),
+    length("1e22", 1e22, "none"), no("length", "1e23", 10, 1),
     no_value("blur(50%)", 11, 6), no_value("blur(-5%)", 12, 6), no_value("brightness(-0)", 12, 12), no_value("hue-rotate(1)", 13, 12), no_value("drop-shadow()", 14, 13),
-    value("drop-shadow(1 2 -3)", 19, f"drop-shadow {bits(1.0)} none {bits(2.0)} none {bits(0.0)} none -"), no_value("drop-shadow(1 2 -3 currentColor)", 7, 20, 99, 41),
-    value("blur()none", 6, f"blur {bits(0.0)} none"), ("filter", 6, "blur()none", accepted("end 10")), no_value("noneblur()", 5, 0),
-    ("filter", 0, " " * 4096, accepted("end 4096")), ("filter", 0, " " * 4097, refused(1, 0, "refused 0")),
+    value("drop-shadow(1 2 -3)", 19, shadow(1.0, 2.0, "none")), no_value("drop-shadow(1 2 -3 currentColor)", 7, 20, 99, 41),
+    value("blur()none", 6, f"blur {bits(0.0)} none"), last_value("blur()none", 6), no_value("noneblur()", 5, 0),
+    last_value(" " * 4096, 0), ("filter", 0, " " * 4097, refused(1, 0, "refused 0")),
 ]
 
 RED = (255, 0, 0, 255)
@@ -78,9 +44,9 @@ FILTER_EFFECTS_1 = [
     *[value(f"{f}()", len(f) + 2, f"{f} {bits(1.0)}") for f in ["brightness", "contrast", "grayscale", "invert", "opacity", "saturate", "sepia"]],
     value("brightness(0.5)", 15, f"brightness {bits(0.5)}"), value("contrast(200%)", 14, f"contrast {bits(2.0)}"), value("sepia(100%)", 11, f"sepia {bits(1.0)}"),
     value("hue-rotate()", 12, f"hue-rotate {bits(0.0)} deg"), value("hue-rotate(90deg)", 17, f"hue-rotate {bits(90.0)} deg"), value("hue-rotate(0)", 13, f"hue-rotate {bits(0.0)} deg"),
-    value("drop-shadow(16px 16px 20px black)", 33, f"drop-shadow {bits(16.0)} px {bits(16.0)} px {bits(20.0)} px 0,0,0,255"),
-    value("drop-shadow(red 1px 2px)", 24, f"drop-shadow {bits(1.0)} px {bits(2.0)} px {bits(0.0)} none 255,0,0,255"),
-    value("url(#filter)", 12, "url 5 6"), ("filter", 0, "none", accepted("end 4")), ("filter", 12, "grayscale() sepia(50%)", accepted(f"value 22 sepia {bits(0.5)}")),
+    value("drop-shadow(16px 16px 20px black)", 33, shadow(16.0, 16.0, "px", "0,0,0,255", 20.0, "px")),
+    value("drop-shadow(red 1px 2px)", 24, shadow(1.0, 2.0, "px", "255,0,0,255")),
+    value("url(#filter)", 12, "url 5 6"), last_value("none", 0), value("grayscale() sepia(50%)", 22, f"sepia {bits(0.5)}", place=12),
 ]
 
 
@@ -107,22 +73,24 @@ def exact_hsl(h, s, l):
 TABLES = [(h, s, l) for h in range(0, 360, 30) for l in [100, 88, 75, 63, 50, 38, 25, 13, 0] for s in [100, 75, 50, 25, 0]]
 
 
-def case(call, place, text):
-    return f"{call} {'' if place is None else f'{place} '}{text.encode().hex() or '-'}"
+BY_HAND = DOCUMENT_01 + CSS_COLOR_3 + FILTER_EFFECTS_1
+DIFFERENT = [answer for row in ROWS for answer in row.answers()]
+
+
+def cases():
+    table = [("color", None, f"hsl({h}, {s}%, {l}%)") for h, s, l in TABLES]
+    return [case(*asked[:3]) for asked in BY_HAND + table + DIFFERENT]
 
 
 def main(answers):
-    listed = DOCUMENT_01 + CSS_COLOR_3 + FILTER_EFFECTS_1
     if answers is None:
-        for call, place, text, _ in listed:
-            print(case(call, place, text))
-        for h, s, l in TABLES:
-            print(case("color", None, f"hsl({h}, {s}%, {l}%)"))
+        print(*cases(), sep="\n")
         return 0
     with open(answers) as f:
-        found = f.read().split("\n")[: len(listed) + len(TABLES)]
-    wrong = [(text, want, got) for (_, _, text, want), got in zip(listed, found) if got != want]
-    for (h, s, l), got in zip(TABLES, found[len(listed) :]):
+        found = f.read().split("\n")[: len(cases())]
+    end = len(BY_HAND) + len(TABLES)
+    wrong = [(text, want, got) for (_, _, text, want), got in itertools.zip_longest(BY_HAND + DIFFERENT, found[: len(BY_HAND)] + found[end:]) if got != want]
+    for (h, s, l), got in zip(TABLES, found[len(BY_HAND) : end]):
         channels = [int(c) for c in got.split(" ")[6:]]
         if channels[3:] != [255] or any(abs(c - x) > Fraction(1, 2) for c, x in zip(channels, exact_hsl(h, s, l))):
             wrong.append((f"hsl({h}, {s}%, {l}%)", [float(x) for x in exact_hsl(h, s, l)], got))

@@ -1,4 +1,4 @@
--- CSS Color Module Level 3, sections 4.2.1, 4.2.2, 4.2.4 and 4.2.5: rgb(), rgba(), hsl() and hsla(), as they are written and what they mean. Written from the document; it knows nothing of the readers.
+-- CSS Color Module Level 3, sections 4.2.1, 4.2.2, 4.2.4 and 4.2.5: rgb(), rgba(), hsl() and hsla(), as they are written and what they mean. From memory of the Recommendation of June 2018; it knows nothing of the readers.
 use Prim.Native.Nat.{ℕ, _+_, _-_, _*_, _/_, _%_, min}
 use mathlib.Core.Bool.{false, cond}
 use mathlib.Core.List.{List, [], _∷_, _++_}

@@ -1,4 +1,4 @@
--- CSS Color Module Level 4, section "The RGB Hexadecimal Notations". Written from the document; it knows nothing of the readers.
+-- CSS Color Module Level 4, section "The RGB Hexadecimal Notations". From memory of the Candidate Recommendation of July 2022; it knows nothing of the readers.
 use Prim.Native.Nat.{ℕ, _+_, _*_, _<_}
 use mathlib.Core.List.{List, [], _∷_, map}
 

@@ -1,4 +1,4 @@
--- CSS Values and Units Module Level 3: integers, numbers, percentages and units as they are written, what number they are, white space, and the characters of links. Written from the document; it knows nothing of the readers.
+-- CSS Values and Units Module Level 3: integers, numbers, percentages and units as they are written, what number they are, white space, and the characters of links. From memory of the Candidate Recommendation of September 2016; it knows nothing of the readers.
 use Prim.Native.Nat.{ℕ, suc, _+_, _*_, _^_, _≤_, _<_}
 use mathlib.Core.Bool.{Bool, true, false, _&&_, cond}
 use mathlib.Core.List.{List, [], _∷_, _++_, map}

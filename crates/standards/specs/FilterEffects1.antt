@@ -1,4 +1,4 @@
--- Filter Effects Module Level 1, sections 5 and 6: a filter value list as it is written, and the effects that it names. Written from the document; it knows nothing of the readers.
+-- Filter Effects Module Level 1, sections 5 and 6: a filter value list as it is written, and the effects that it names. From memory of the Working Draft of December 2018; it knows nothing of the readers.
 -- Left out of the grammar: names in capitals (CSS takes any case, svgtypes lower case alone), comments, escapes, quoted links, and shadows with no white space between their parts.
 -- <color> is CSS Color's: it is a parameter, with how it is written.
 use Prim.Native.Nat.{ℕ}
@@ -111,7 +111,7 @@ offsets (two dx b l dy) = cssLength dx ++ (gap b l ++ cssLength dy)
 offsets (three dx b l dy c m d p) = cssLength dx ++ (gap b l ++ (cssLength dy ++ (gap c m ++ cssLength d)))
 
 module _ (Colour : Type 0) where
-  -- <color>, of which the keyword currentColor (CSS Color 4, section 8.2)
+  -- <color>, of which the keyword currentColor (CSS Color 3, section 4.4)
   pub data Tint : Type 0 where
     current : Tint
     tint : Colour → Tint

@@ -1,4 +1,4 @@
--- IEEE 754-2008 and -2019: the numbers of a format, rounding to the nearest, and the operations. Written from the document; it knows nothing of the readers.
+-- IEEE 754-2008 and -2019: the numbers of a format, rounding to the nearest, and the operations. From memory of both editions; it knows nothing of the readers.
 -- `Float` is the logic's: `fin s m e` is m * 2 ^ e, negative where s is true, and 2 ^ e is the fraction up e / down e. Everything here is over whole numbers.
 use Prim.Native.Nat.{ℕ, suc, _+_, _-_, _*_, _%_, _^_, _≤_, _<_}
 use mathlib.Core.Bool.{Bool, not, _&&_, Bool·beq, cond}

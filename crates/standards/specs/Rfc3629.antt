@@ -1,4 +1,4 @@
--- RFC 3629, "UTF-8, a transformation format of ISO 10646": section 4, "Syntax of UTF-8 Byte Sequences", as a tree with a constructor for each alternative of its ABNF, and section 3, "UTF-8 definition", for the number of the character that a sequence stands for. Written from the document; it knows nothing of the readers.
+-- RFC 3629, "UTF-8, a transformation format of ISO 10646": section 4, "Syntax of UTF-8 Byte Sequences", as a tree with a constructor for each alternative of its ABNF, and section 3, "UTF-8 definition", for the number of the character that a sequence stands for. From memory of the RFC of November 2003; it knows nothing of the readers.
 use Prim.Native.Nat.{ℕ, _+_, _-_, _*_, _≤_}
 use mathlib.Core.List.{List, [], _∷_, _++_}
 

@@ -1,4 +1,4 @@
--- SVG 2: lengths, angles and paints as they are written, with the units of CSS Values and Units Module Level 3. Written from the documents; it knows nothing of the readers.
+-- SVG 2: lengths, angles and paints as they are written, with the units of CSS Values and Units Module Level 3. From memory of SVG 2, Candidate Recommendation of October 2018, and CSS Values 3, Candidate Recommendation of September 2016; it knows nothing of the readers.
 -- CSS ignores the letter case of keywords; the trees have that of the documents alone, since document 01 takes no other.
 use Prim.Native.Nat.{ℕ, _*_, _^_}
 use mathlib.Core.Bool.{false}

@@ -1,4 +1,4 @@
--- The Unicode Character Database, PropList.txt: the property White_Space, 25 code points, line by line. Written from the document; it knows nothing of the readers.
+-- The Unicode Character Database, PropList.txt: the property White_Space, 25 code points, line by line. From memory of Unicode 15.0, 2022; it knows nothing of the readers.
 use Prim.Native.Nat.{ℕ}
 use mathlib.Core.Bool.{Bool, _&&_, _||_}
 use lib.Dec.{leb, eqb}
