@@ -2,11 +2,11 @@
 use Prim.Native.Nat.{ℕ, zero, suc, _+_, _-_, _*_, _/_, _%_, _^_, _≤_, _<_, min}
 use mathlib.Core.Bool.{Bool, true, false, cond}
 use mathlib.Core.Path.{_≡_, refl, sym, ap, _∙_}
-use mathlib.Core.Logic.{⊎-elim}
-use native.Mathlib.Nat.{mul-one, mul-assoc, mul-comm, mul-left-comm, mul-right-comm, add-mul, div-eq-of-lt-le, le-div-iff-mul-le, le-of-mul-le-mul-right, mul-le-mul-right, mul-le-mul, le-trans, le-of-eq, zero-mul, pow-le-pow-right, mul-div-cancel, mul-mod-left, mod-lt, add-mod-right, mod-mod, mod-eq-of-lt, mul-lt-mul-of-pos-right}
+use native.Mathlib.Nat.{mul-one, mul-assoc, mul-left-comm, mul-right-comm, add-mul, div-eq-of-lt-le, le-of-mul-le-mul-right, mul-le-mul-right, mul-le-mul, le-trans, le-of-eq, zero-mul, pow-le-pow-right, mul-div-cancel, mul-mod-left, mod-lt, add-mod-right, mod-mod, mod-eq-of-lt, mul-lt-mul-of-pos-right}
 use native.Mathlib.Omega.{arith}
 use borrow.Author.Tests.{ltb-true, ltb-false, lt-ltb}
-use lib.Dec.{T, eqb, ltb, eqb→eq, lit<, lit≤}
+use lib.Dec.{T, ltb, lit<, lit≤}
+use lib.IntN.{pos}
 use lib.Ieee.{Float, nan, inf, fin, Format, binary64, prec, low, emax, up, down, odd, units, round, mul, div, sum, add, rem, neg, lt, le, ofBits, fits}
 use lib.Ieee.Back.{round-whole, whole-unique}
 use lib.Arith.{mod-mul}
@@ -14,25 +14,21 @@ use lib.Pow.{pow-add}
 use lib.Ieee.Bits.{ofBits-fits}
 use lib.Ieee.Exact.{HasValue}
 use lib.Ieee.Fits.{down-pos, div-fits}
-use lib.Ieee.Nearest.{div-same}
 use lib.Ieee.Order.{round-mono}
 use lib.Ieee.Positive.{positive, positive-of-value, above, above-of-le, le→cross, value→cross, num, den, den-pos}
 use lib.Ieee.Scale.{round-same}
-use Rattle.bytes.proofs.Ranges.{across, either, le-or-lt}
+use Rattle.bytes.proofs.Ranges.{either}
 use Rattle.floats.specs.Floats.{channelOf, clamped, d0, d1, signOf}
 use Rattle.numbers.specs.Powers.{hundred}
-use Rattle.color.specs.Color.{d255, scaledChannel}
+use Rattle.color.specs.Color.{scaledChannel}
 use Rattle.color.specs.Hsl.{d360, turned, hslColor}
-use Rattle.standards.specs.Ieee754.{Fraction, double}
+use Rattle.standards.specs.Ieee754.{double}
 use Rattle.standards.specs.CssValues3.{isMinus, joined, fraction-digits, power, falls, Number, exactly}
-use Rattle.standards.specs.CssColor3.{Integer, asNumber, size, channel, scaled, hundredths, percent, alpha, degrees}
+use Rattle.standards.specs.CssColor3.{Integer, asNumber, size, channel, degrees}
 use Rattle.standards.specs.Domain.{Near, InDomain}
+use Rattle.standards.specs.Answers.{portion}
 use Rattle.standards.proofs.Doubles.{under-pos}
 use Rattle.standards.proofs.Signs.{round-sign, double-sign, hundredth-sign}
-
--- a percentage as the reader has it: divided by 100, and rounded again
-abbrev pub portion : Number → Float
-portion t = div binary64 (double (exactly t)) hundred
 
 -- an integer is its size over 1
 pub integer-double : (i : Integer) → double (exactly (asNumber i)) ≡ round binary64 (isMinus (i .signed)) (size i) 1
@@ -61,14 +57,14 @@ integer-channel i ok =
     rw (integer-double i)
     (value-channel _ (isMinus (i .signed)) (size i) (round-whole binary64 (isMinus (i .signed)) (size i) (omega (arith, ok .small))))
 
--- below zero
-mul-minus : (x : Float) → signOf x ≡ true → signOf (mul binary64 x d255) ≡ true
-unfolding mul ofBits
-mul-minus nan e = cc
-mul-minus (inf true) e = refl
-mul-minus (inf false) e = cc
-mul-minus (fin true m d) e = round-sign binary64 true (m * up d * (255 * 1)) (down d * 1)
-mul-minus (fin false m d) e = cc
+-- below zero, times 255
+mul-minus : (f : Format) (x : Float) → signOf x ≡ true → signOf (mul f x (fin false 255 (pos 0))) ≡ true
+unfolding mul
+mul-minus f nan e = cc
+mul-minus f (inf true) e = refl
+mul-minus f (inf false) e = cc
+mul-minus f (fin true m d) e = round-sign f true (m * up d * (255 * 1)) (down d * 1)
+mul-minus f (fin false m d) e = cc
 
 minus-channel : (x : Float) → signOf x ≡ true → channelOf x ≡ 0
 unfolding channelOf
@@ -77,6 +73,9 @@ minus-channel (inf true) e = refl
 minus-channel (inf false) e = cc
 minus-channel (fin true m d) e = refl
 minus-channel (fin false m d) e = cc
+
+pub minus-scaled : (f : Format) (x : Float) → signOf x ≡ true → channelOf (mul f x (fin false 255 (pos 0))) ≡ 0
+minus-scaled f x e = minus-channel (mul f x (fin false 255 (pos 0))) (mul-minus f x e)
 
 -- at or above n / k
 abbrev AtLeast : ℕ → ℕ → Float → Type 0
@@ -121,26 +120,6 @@ whole-value n h = round-whole binary64 false n h
 part-least : (x : Float) → AtLeast 100 1 x → AtLeast 1 1 (div binary64 x hundred)
 part-least x h = div-least 100 1 1 1 (lit< tt) (lit< tt) (whole-value 1 (lit≤ tt)) (λ p q l. omega arith) x h
 
-mul-least : (x : Float) → AtLeast 1 1 x → AtLeast 255 1 (mul binary64 x d255)
-unfolding mul ofBits
-mul-least nan h = absurd h
-mul-least (inf true) h = cc
-mul-least (inf false) h = refl
-mul-least (fin true m e) h = absurd (let z : _≡_ {A = ℕ} 0 1 = cc in omega arith)
-mul-least (fin false m e) h =
-    round-least (m * up e * (255 * 1)) (down e * 1) 255 1 (omega (arith, down-pos e)) (lit< tt) (lit< tt) (whole-value 255 (lit≤ tt)) (omega (arith, h .1))
-
-least-channel : (x : Float) → AtLeast 255 1 x → channelOf x ≡ 255
-unfolding channelOf
-least-channel nan h = absurd h
-least-channel (inf true) h = cc
-least-channel (inf false) h = refl
-least-channel (fin true m e) h = absurd (let z : _≡_ {A = ℕ} 0 1 = cc in omega arith)
-least-channel (fin false m e) h =
-    let d = down-pos e in
-    let r : 255 ≤ (2 * (m * up e) + down e) / (2 * down e) = le-div-iff-mul-le {k = 2 * down e} {x = 255} {y = 2 * (m * up e) + down e} (omega arith) .1 (omega (arith, h .1)) in
-    omega arith
-
 least-clamped : (x : Float) → T (fits binary64 x) → AtLeast 1 1 x → clamped x ≡ d1
 unfolding lt ofBits
 least-clamped nan f h = absurd h
@@ -155,84 +134,19 @@ least-clamped (fin false m e) f h =
     (λ u. simp (t, u) (whole-unique binary64 (fin false m e) d1 false 1 f (ofBits-fits binary64 0x3ff0_0000_0000_0000)
     (refl, omega (arith, h .1, ltb-false (1 * down e) (m * up e * 1) u)) (refl, refl))))
 
--- the same number, as k over n
-double-same : (t : Number) (k n : ℕ) → 0 < n → exactly t .minus ≡ false → exactly t .over * n ≡ k * exactly t .under → double (exactly t) ≡ round binary64 false k n
-unfolding double
-double-same t k n h e q = rw e (round-same binary64 false (exactly t .over) (exactly t .under) k n (under-pos t) h q)
-
 double-least : (t : Number) (n : ℕ) → 0 < n → n ≤ 2 ^ 53 → exactly t .minus ≡ false → n * exactly t .under ≤ exactly t .over → AtLeast n 1 (double (exactly t))
 unfolding double
 double-least t n p h e l = rw e (round-least (exactly t .over) (exactly t .under) n 1 (under-pos t) (lit< tt) p (whole-value n h) (omega arith))
 
--- the document's side: a part that is k over n, and a part that is 1 or more
-scaled-same : (a c k n : ℕ) → 0 < c → 0 < n → a * n ≡ k * c → (2 * (255 * a) + c) / (2 * c) ≡ (2 * (255 * k) + n) / (2 * n)
-scaled-same a c k n C P e =
-    let x : (2 * (255 * a) + c) * (2 * n) ≡ 1020 * (a * n) + 2 * (c * n) = simp (add-mul, mul-assoc, mul-left-comm) (omega arith) in
-    let y : (2 * (255 * k) + n) * (2 * c) ≡ 1020 * (k * c) + 2 * (c * n) = simp (add-mul, mul-assoc, mul-left-comm, mul-comm) (omega arith) in
-    div-same (2 * (255 * a) + c) (2 * c) (2 * (255 * k) + n) (2 * n) (omega arith) (omega arith) (omega arith)
+-- an alpha below 0 is 0, and so is a percentage
+module _ (t : Number) (e : exactly t .minus ≡ true) where
+  pub alpha-below : scaledChannel (double (exactly t)) ≡ 0
+  unfolding ofBits
+  alpha-below = minus-scaled binary64 _ (double-sign (exactly t) ∙ e)
 
-scaled-minus : (q : Fraction) → q .minus ≡ true → scaled q ≡ 0
-unfolding scaled
-scaled-minus q e = simp e
-
-scaled-least : (q : Fraction) → q .minus ≡ false → 0 < q .under → q .under ≤ q .over → scaled q ≡ 255
-unfolding scaled
-scaled-least q e h l =
-    let r : 255 ≤ (2 * (255 * q .over) + q .under) / (2 * q .under) = le-div-iff-mul-le {k = 2 * q .under} {x = 255} {y = 2 * (255 * q .over) + q .under} (omega arith) .1 (omega arith) in
-    simp e (omega arith)
-
--- alpha, and a percentage as a channel
-near-alpha : (k : ℕ) → k ≤ 1000 → scaledChannel (round binary64 false k 1000) ≡ min 255 ((2 * (255 * k) + 1000) / 2000)
-unfolding channelOf mul ofBits round
-near-alpha k h =
-    eqb→eq _ _ (across (λ j. eqb (scaledChannel (round binary64 false j 1000)) (min 255 ((2 * (255 * j) + 1000) / 2000))) 0 1001 tt k (omega arith) (omega arith))
-
-near-percent : (k : ℕ) → k ≤ 1000 → scaledChannel (div binary64 (round binary64 false k 10) hundred) ≡ min 255 ((2 * (255 * k) + 1000) / 2000)
-unfolding channelOf mul div ofBits round
-near-percent k h =
-    eqb→eq _ _ (across (λ j. eqb (scaledChannel (div binary64 (round binary64 false j 10) hundred)) (min 255 ((2 * (255 * j) + 1000) / 2000))) 0 1001 tt k (omega arith) (omega arith))
-
-module _ (t : Number) where
-  -- THEOREM. An alpha below 0 is 0, and so is a percentage.
-  module _ (e : exactly t .minus ≡ true) where
-    pub alpha-below : scaledChannel (double (exactly t)) ≡ 0
-    alpha-below = minus-channel _ (mul-minus _ (double-sign (exactly t) ∙ e))
-
-    pub percent-below : scaledChannel (portion t) ≡ 0
-    percent-below = minus-channel _ (mul-minus _ (hundredth-sign _ ∙ (double-sign (exactly t) ∙ e)))
-
-  module _ (e : exactly t .minus ≡ false) where
-    -- THEOREM. An alpha of 1 or more is 255, and so is a percentage of 100% or more.
-    pub alpha-above : exactly t .under ≤ exactly t .over → scaledChannel (double (exactly t)) ≡ 255
-    alpha-above h = least-channel _ (mul-least _ (double-least t 1 (lit< tt) (lit≤ tt) e (omega arith)))
-
-    pub percent-above : 100 * exactly t .under ≤ exactly t .over → scaledChannel (portion t) ≡ 255
-    percent-above h = least-channel _ (mul-least _ (part-least _ (double-least t 100 (lit< tt) (lit≤ tt) e h)))
-
-    -- THEOREM. An alpha of whole thousandths is the whole number nearest to it times 255, and a percentage of whole tenths the one nearest to 255 hundredths of it.
-    pub alpha-near : (k : ℕ) → k ≤ 1000 → exactly t .over * 1000 ≡ k * exactly t .under → scaledChannel (double (exactly t)) ≡ alpha t
-    unfolding scaled
-    alpha-near k h q =
-        rw (double-same t k 1000 (lit< tt) e q, near-alpha k h)
-        (simp (e, scaled-same (exactly t .over) (exactly t .under) k 1000 (under-pos t) (lit< tt) q))
-
-    pub percent-near : (k : ℕ) → k ≤ 1000 → exactly t .over * 10 ≡ k * exactly t .under → scaledChannel (portion t) ≡ percent t
-    unfolding scaled
-    percent-near k h q =
-        rw (double-same t k 10 (lit< tt) e q, near-percent k h)
-        (simp (e, scaled-same (exactly t .over) (100 * exactly t .under) k 1000 (omega (arith, under-pos t)) (lit< tt) (omega (arith, mul-left-comm k 100 (exactly t .under)))))
-
--- THEOREM. The channel of a whole percentage is the whole number nearest to 255 hundredths of it, clipped to 0 .. 255.
-pub percent-channel : (i : Integer) → scaledChannel (portion (asNumber i)) ≡ percent (asNumber i)
-unfolding exactly joined fraction-digits power falls
-percent-channel i =
-    let t = asNumber i in
-    either (isMinus (i .signed))
-    (λ e. percent-below t e ∙ sym (scaled-minus (hundredths (exactly t)) e))
-    (λ e. ⊎-elim
-    (λ (h : 100 ≤ size i). percent-above t e (omega arith) ∙ sym (scaled-least (hundredths (exactly t)) e (lit< tt) (omega arith)))
-    (λ (h : size i < 100). percent-near t e (10 * size i) (omega arith) (omega arith))
-    (le-or-lt 100 (size i)))
+  pub percent-below : scaledChannel (portion t) ≡ 0
+  unfolding ofBits
+  percent-below = minus-scaled binary64 _ (hundredth-sign _ ∙ (double-sign (exactly t) ∙ e))
 
 -- hues, and values of hsl() outside 0% .. 100%
 rem-360 : (x : Float) (s : Bool) (n : ℕ) → HasValue x s n 1 → rem binary64 x d360 ≡ round binary64 s (n % 360) 1

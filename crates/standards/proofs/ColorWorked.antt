@@ -27,7 +27,8 @@ use Rattle.standards.specs.CssColor3.{Integer, asNumber, size, degrees, 
 use Rattle.standards.specs.Ieee754.{double}
 use Rattle.standards.specs.CssValues3.{isMinus, exactly}
 use Rattle.standards.specs.Domain.{InDomain}
-use Rattle.standards.proofs.Clipped.{portion, integer-double, hue-as}
+use Rattle.standards.specs.Answers.{portion}
+use Rattle.standards.proofs.Clipped.{integer-double, hue-as}
 
 -- a colour, and the place after n bytes
 abbrev read : ℕ → ℕ → ℕ → ℕ → ℕ → ColorRead

@@ -6,7 +6,7 @@ use mathlib.Core.Path.{_≡_}
 use native.Mathlib.Nat.{mul-pos, one-le-pow, le-trans, le-of-eq, le-of-lt, mul-le-mul, mul-le-mul-right, mul-assoc, mul-comm, one-mul, pow-le-pow-right}
 use lib.Dec.{T, lit<, lit≤}
 use lib.Pow.{pow-add}
-use lib.IntN.{ℤ, pos}
+use lib.IntN.{pos}
 use lib.Ieee.{Float, fin, binary64, round, div, ofBits}
 use lib.Ieee.Scale.{finite}
 use Rattle.bytes.specs.Bytes.{isSpace}
@@ -22,10 +22,11 @@ use Rattle.numbers.specs.Powers.{hundred}
 use Rattle.numbers.specs.declared.Number.{Number}
 use Rattle.numbers.specs.declared.NumberRead.the-variants as N
 use Rattle.numbers.proofs.Nearest.{value-nearest, number-nearest, number-finite}
-use Rattle.standards.specs.Ieee754.{Fraction, parameters, RoundsTo, double, exact, quotient}
+use Rattle.standards.specs.Ieee754.{Fraction, parameters, RoundsTo, double}
 use Rattle.standards.specs.CssValues3 as Css
 use Rattle.standards.specs.CssValues3.{exactly, joined, fraction-digits, power, falls}
 use Rattle.standards.specs.Domain.{Near, InDomain}
+use Rattle.standards.specs.Answers.{Hundredth}
 use Rattle.standards.proofs.Rounding.{round-rounds, double-rounds, div-rounds}
 
 ten-pos : (k : ℕ) → 0 < 10 ^ k
@@ -52,14 +53,6 @@ written-under s i =
     let m = mantissaAt s (afterSign s i) in
     let x = exponentAt s (m .end .0) in
     mul-pos (ten-pos (m .fraction)) (moved-pos (x .minus) (x .value))
-
--- A hundredth of q, as document 01 has it: q rounded to a double, and that, divided by 100, rounded again
-pub record Hundredth (q : Fraction) (v : Float) : Type 0 where
-  pub s : Bool
-  pub m : ℕ
-  pub e : ℤ
-  pub first : RoundsTo (parameters binary64) q (fin s m e)
-  pub second : RoundsTo (parameters binary64) (quotient (exact s m e) (record { minus = false; over = 100; under = 1 })) v
 
 hundredth : (q : Fraction) (x : Float) → T (finite x) → RoundsTo (parameters binary64) q x → Hundredth q (div binary64 x hundred)
 unfolding ofBits
@@ -112,11 +105,11 @@ module _ (t : Css.Number) where
           let c : 9007199254740992 * (10 ^ f * 10 ^ 22) ≡ 9007199254740992 * 10 ^ 22 * (10 ^ f * 1) = simp (mul-assoc, mul-comm, one-mul) in
           le-trans b (le-trans (le-of-eq c) (mul-le-mul-right (10 ^ f * 1) (lit≤ tt)))
 
+  pub double-finite : InDomain t → T (finite (double (exactly t)))
+  double-finite h =
+      let q = exactly t in
+      unfold double in is-finite 127 (round binary64 (q .minus) (q .over) (q .under)) (round-within binary64 (q .minus) (q .over) (q .under) 127 under-pos (lit≤ tt) (domain-small h))
+
   -- THEOREM. and the percentage's is the hundredth.
   pub exactly-hundredth : InDomain t → Hundredth (exactly t) (div binary64 (double (exactly t)) hundred)
-  exactly-hundredth h = hundredth (exactly t) (double (exactly t)) finite-double exactly-rounds
-    where
-      finite-double : T (finite (double (exactly t)))
-      finite-double =
-          let q = exactly t in
-          unfold double in is-finite 127 (round binary64 (q .minus) (q .over) (q .under)) (round-within binary64 (q .minus) (q .over) (q .under) 127 under-pos (lit≤ tt) (domain-small h))
+  exactly-hundredth h = hundredth (exactly t) (double (exactly t)) (double-finite h) exactly-rounds

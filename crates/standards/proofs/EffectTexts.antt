@@ -1,14 +1,16 @@
--- The texts of Filter Effects 1's grammar are of ASCII, as its colours are.
+-- The texts of Filter Effects 1's grammar are of ASCII, as its colours are, but for links: they are of characters.
 use Prim.Native.Nat.{ℕ}
 use mathlib.Core.List.{List, [], _∷_, _++_}
 use mathlib.Core.Path.{refl}
 use Rattle.color.specs.declared.Color.{Color}
-use Rattle.standards.specs.CssValues3.{Blank, blanks, number, angleUnit}
+use Rattle.standards.specs.CssValues3.{Blank, number, angleUnit}
 use Rattle.standards.specs.FilterEffects1 as E
 use Rattle.standards.specs.FilterEffects1.{LengthMark, unmarked, marked, lengthMark, CssLength, cssLength, Simple, brightness, contrast, grayscale, invert, opacity, saturate, sepia, simpleName, Offsets, two, three, offsets, gap}
 use Rattle.standards.proofs.Runs.{Ascii, ascii-append, blanks-ascii, number-ascii}
 use Rattle.standards.proofs.Units.{unit-ascii, angle-unit-ascii}
-use Rattle.standards.proofs.Links.{names-ascii}
+use Rattle.standards.specs.CssSyntax3.{characters}
+use Rattle.standards.proofs.Tight.{ascii-written, blanks-written, written-append}
+use Rattle.standards.proofs.Utf8.{Written}
 use Rattle.standards.proofs.Shadows.{Coloured}
 
 mark-ascii : (u : LengthMark) → Ascii (lengthMark u)
@@ -73,33 +75,29 @@ module _ {Colour : Type 0} {colour : Colour → List ℕ} {channels : Colour →
   name-ascii (E.drop-shadow d) = refl
   name-ascii (E.url c l) = refl
 
-  argument-ascii : (c : E.Content Colour) → Ascii (E.argument colour c)
+  argument-written : (c : E.Content Colour) → Written (E.argument colour c)
   unfolding E.argument
-  argument-ascii E.blur-default = refl
-  argument-ascii (E.blur l p) = length-ascii l
-  argument-ascii (E.simple-default f) = refl
-  argument-ascii (E.simple f a) = amount-ascii a
-  argument-ascii E.hue-rotate-default = refl
-  argument-ascii (E.hue-rotate a) = angle-ascii a
-  argument-ascii (E.drop-shadow d) = shadow-ascii d
-  argument-ascii (E.url c l) = names-ascii (c ∷ l)
+  argument-written E.blur-default = ascii-written [] refl
+  argument-written (E.blur l p) = ascii-written _ (length-ascii l)
+  argument-written (E.simple-default f) = ascii-written [] refl
+  argument-written (E.simple f a) = ascii-written _ (amount-ascii a)
+  argument-written E.hue-rotate-default = ascii-written [] refl
+  argument-written (E.hue-rotate a) = ascii-written _ (angle-ascii a)
+  argument-written (E.drop-shadow d) = ascii-written _ (shadow-ascii d)
+  argument-written (E.url c l) = written-append (ascii-written (35 ∷ []) refl) (record { chars = characters (c ∷ l); same = refl })
 
-  function-ascii : (t : E.FilterFunction Colour) → Ascii (E.functionText colour t)
+  function-written : (t : E.FilterFunction Colour) → Written (E.functionText colour t)
   unfolding E.functionText
-  function-ascii t =
-      let a = E.argument colour (t .content) in
-      let b = blanks (t .after) ++ (41 ∷ []) in
-      ascii-append (E.name colour (t .content)) (40 ∷ (blanks (t .before) ++ (a ++ b))) (name-ascii (t .content))
-      (ascii-append (blanks (t .before)) (a ++ b) (blanks-ascii (t .before))
-      (ascii-append a b (argument-ascii (t .content)) (ascii-append (blanks (t .after)) (41 ∷ []) (blanks-ascii (t .after)) refl)))
+  function-written t =
+      written-append (ascii-written (E.name colour (t .content)) (name-ascii (t .content)))
+      (written-append (ascii-written (40 ∷ []) refl)
+      (written-append (blanks-written (t .before)) (written-append (argument-written (t .content)) (written-append (blanks-written (t .after)) (ascii-written (41 ∷ []) refl)))))
 
-  items-ascii : (ts : List (E.Item Colour)) → Ascii (E.itemsText colour ts)
+  pub items-written : (ts : List (E.Item Colour)) → Written (E.itemsText colour ts)
   unfolding E.itemsText E.itemText
-  items-ascii [] = refl
-  items-ascii (t ∷ ts) =
-      ascii-append (E.functionText colour (t .function) ++ blanks (t .spaces)) (E.itemsText colour ts)
-      (ascii-append (E.functionText colour (t .function)) (blanks (t .spaces)) (function-ascii (t .function)) (blanks-ascii (t .spaces))) (items-ascii ts)
+  items-written [] = ascii-written [] refl
+  items-written (t ∷ ts) = written-append (written-append (function-written (t .function)) (blanks-written (t .spaces))) (items-written ts)
 
-  pub list-ascii : (l : E.FilterValueList Colour) → Ascii (E.listText colour l)
+  pub list-written : (l : E.FilterValueList Colour) → Written (E.listText colour l)
   unfolding E.listText
-  list-ascii l = ascii-append (blanks (l .leading)) (E.itemsText colour (l .first ∷ l .others)) (blanks-ascii (l .leading)) (items-ascii (l .first ∷ l .others))
+  list-written l = written-append (blanks-written (l .leading)) (items-written (l .first ∷ l .others))

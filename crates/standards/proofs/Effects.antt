@@ -1,13 +1,13 @@
 -- The filter functions of Filter Effects 1, and lists of them, are what the reader reads.
 use Prim.Native.Nat.{ℕ, _+_, _-_}
-use mathlib.Core.Bool.{Bool, true, false}
+use mathlib.Core.Bool.{false}
 use mathlib.Core.List.{List, [], _∷_, _++_, append-assoc, map-append}
 use mathlib.Core.Logic.{_⊎_, inl, inr, ⊎-elim}
-use mathlib.Core.Path.{_≡_, refl, sym, _∙_}
+use mathlib.Core.Path.{_≡_, refl, _∙_}
 use native.Mathlib.Omega.{arith}
 use borrow.Author.Tests.{lt-leb}
-use lib.Dec.{T, leb}
-use lib.Ieee.{Float, round, ofBits}
+use lib.Dec.{leb}
+use lib.Ieee.{round, ofBits}
 use lib.ListN.{length, getD, length-append, length-map}
 use lib.Seq.{take-at}
 use Rattle.bytes.specs.Bytes.{within, isSpace, isAsciiIdent, isUrlByte}
@@ -27,28 +27,20 @@ use Rattle.filter_functions.specs.Values.{parseFilterPositiveLength, parseBlur,
 use Rattle.filter_functions.specs.Filters.{plainName, filterName, argumentOf, parseArgument, closeBracket, parseNext}
 use Rattle.filter_functions.specs.declared.FilterValue.{FilterValue}
 use Rattle.filter_functions.specs.declared.FilterValue.the-variants as G
-use Rattle.standards.specs.CssValues3.{Blank, blank, blanks, space, tab, line-feed, return, isMinus, deg, angleUnit, UrlByte, urlByte, urlBytes}
-use Rattle.standards.specs.Domain.{InDomain}
+use Rattle.standards.specs.CssValues3.{Blank, blank, blanks, isMinus, deg, angleUnit}
+use Rattle.standards.specs.CssSyntax3.{UrlCharacter, written}
+use Rattle.standards.specs.Domain.{InDomain, amountNumber, angleNumber, Taken}
 use Rattle.standards.specs.Ieee754.{double}
 use Rattle.standards.specs.FilterEffects1 as E
 use Rattle.standards.specs.FilterEffects1.{CssLength, cssLength, measure, Simple, brightness, contrast, grayscale, invert, opacity, saturate, sepia, simpleName}
+use Rattle.standards.specs.Answers.{angleNamed, unitMarked, measureOf, turnOf, simpleValue, linkPlace, value}
 use Rattle.standards.proofs.Reading.{NumbersRead}
 use Rattle.standards.proofs.Cursors.{At, at-start, at-step, at-blanks, at-scan, at-spaces, at-byte, at-curr, at-other, at-still, at-drop}
-use Rattle.standards.proofs.Runs.{run-map, First, number-first}
-use Rattle.standards.proofs.Units.{angleNamed}
-use Rattle.standards.proofs.Links.{name-url}
-use Rattle.standards.proofs.Shadows.{Gives, Coloured, ShadowTaken, shadowColor, passedWith, shadowOf, shadow-at, shadow-unspaced, shadow-says}
-use Rattle.standards.proofs.Marked.{Closes, length-first, nought-is, no-percent, closes-after, unitMarked, lengthOf, angleOf, positive, first-space, length-at, amountNumber, share-sign, amount-at, angleNumber, angle-at}
-
--- the reader's seven
-unfoldable pub simpleValue : Simple → Float → FilterValue
-simpleValue brightness x = G.Brightness x
-simpleValue contrast x = G.Contrast x
-simpleValue grayscale x = G.Grayscale x
-simpleValue invert x = G.Invert x
-simpleValue opacity x = G.Opacity x
-simpleValue saturate x = G.Saturate x
-simpleValue sepia x = G.Sepia x
+use Rattle.standards.proofs.Runs.{run-every, First, number-first}
+use Rattle.standards.proofs.Characters.{written-some}
+use Rattle.standards.proofs.Links.{names-url, link-ends}
+use Rattle.standards.proofs.Shadows.{Gives, Coloured, passedWith, shadowOf, shadow-at, shadow-unspaced, shadow-says}
+use Rattle.standards.proofs.Marked.{Closes, length-first, nought-is, no-percent, closes-after, positive, first-space, length-at, share-sign, amount-at, angle-at}
 
 -- the steps of `parseNext`, each as it went: a word of n bytes, a bracket, spaces up to i, what the brackets hold up to j, spaces up to e, a bracket
 next-is : (s : List ℕ) (n i j e : ℕ) (v : FilterValue) → scan isAsciiIdent s 0 ≡ n → scan isSpace s n ≡ n → consumeByte s n 40 ≡ K.Next (place (n + 1)) → scan isSpace s (n + 1) ≡ i
@@ -162,25 +154,25 @@ module _ {s : List ℕ} {i : ℕ} where
   simple-none saturate b h B out k = simp (at-curr 41 b h, one-is)
   simple-none sepia b h B out k = simp (at-curr 41 b h, one-is)
 
-  url-at : (c : UrlByte) (l : List UrlByte) (b : List ℕ) → isUrlByte (getD b 0 0) ≡ false → At s i (35 ∷ (urlBytes (c ∷ l) ++ b))
-      → Gives (λ B out k. thenFilter out (parseUrl s 0 i) k) (G.Url (record { start = place (i + 1); len = length (urlBytes (c ∷ l)) })) (i + length (35 ∷ urlBytes (c ∷ l)))
+  url-at : (c : UrlCharacter) (l : List UrlCharacter) (b : List ℕ) → isUrlByte (getD b 0 0) ≡ false → At s i (35 ∷ (written (c ∷ l) ++ b))
+      → Gives (λ B out k. thenFilter out (parseUrl s 0 i) k) (G.Url (record { start = place (i + 1); len = length (written (c ∷ l)) })) (i + length (35 ∷ written (c ∷ l)))
   url-at c l b e h B out k =
-      let t = urlBytes (c ∷ l) in
+      let t = written (c ∷ l) in
       let n = length t in
       let g : At s (i + 1) (t ++ b) = at-step (35 ∷ []) (t ++ b) h in
-      let sc : scan isUrlByte s (i + 1) ≡ i + 1 + n = at-scan isUrlByte g ∙ rw (run-map isUrlByte urlByte name-url (c ∷ l) b e, length-map) in
+      let sc : scan isUrlByte s (i + 1) ≡ i + 1 + n = at-scan isUrlByte g ∙ rw (run-every isUrlByte t b (names-url (c ∷ l)) e) in
       let z : i + 1 + n ≡ i + length (35 ∷ t) = omega arith in
-      url-is s i (i + length (35 ∷ t)) n (at-byte 35 (t ++ b) h) (sc ∙ z) (lt-leb (i + length (35 ∷ t)) (i + 1) (omega arith)) (omega arith) B out k
+      url-is s i (i + length (35 ∷ t)) n (at-byte 35 (t ++ b) h) (sc ∙ z) (lt-leb (i + length (35 ∷ t)) (i + 1) (omega (arith, written-some c l))) (omega arith) B out k
 
 module _ (r : NumbersRead) {s : List ℕ} {i : ℕ} where
   blur-at : (l : CssLength) {b : List ℕ} → isMinus (l .size .signed) ≡ false → InDomain (l .size) → Closes b → At s i (cssLength l ++ b)
-      → Gives (λ B out k. thenFilter out (parseBlur s 0 i) k) (G.Blur (lengthOf (measure l))) (i + length (cssLength l))
+      → Gives (λ B out k. thenFilter out (parseBlur s 0 i) k) (G.Blur (measureOf (measure l))) (i + length (cssLength l))
   unfolding parseBlur parseFilterPositiveLength measure
   blur-at l {b} p d c h B out k =
       simp (at-other 41 (λ e. omega (arith, length-first l b .low)) h, length-at r l d c h, positive (l .size) p, no-percent)
 
   hue-at : (a : E.CssAngle) {b : List ℕ} → InDomain (angleNumber a) → Closes b → At s i (E.cssAngle a ++ b)
-      → Gives (λ B out k. thenFilter out (parseHueRotate s 0 i) k) (G.HueRotate (angleOf (E.turned a))) (i + length (E.cssAngle a))
+      → Gives (λ B out k. thenFilter out (parseHueRotate s 0 i) k) (G.HueRotate (turnOf (E.turned a))) (i + length (E.cssAngle a))
   unfolding parseHueRotate
   hue-at a {b} d c h B out k = simp (at-other 41 (λ e. omega (arith, angle-first a b .low)) h, angle-at r a 0 d c h)
 
@@ -188,74 +180,34 @@ module _ (r : NumbersRead) {s : List ℕ} {i : ℕ} where
       → Gives (λ B out k. thenFilter out (argumentOf (filterName (simpleName f)) s 0 i) k) (simpleValue f (E.share a)) (i + length (E.amount a))
   simple-at f a {b} d c h = simple-is f s i _ (i + length (E.amount a)) (at-other 41 (λ e. omega (arith, amount-first a b .low)) h) (amount-at r a d c h) (share-sign a)
 
--- The reader ends a link at a space or at the bracket alone: of `url(#a`, a tab, `)` the tab is taken for a part of the link, and the document says otherwise
-unfoldable pub spaced : List Blank → Bool
-spaced [] = true
-spaced (space ∷ l) = true
-spaced (tab ∷ l) = false
-spaced (line-feed ∷ l) = false
-spaced (return ∷ l) = false
-
-spaced-end : (l : List Blank) (rest : List ℕ) → spaced l ≡ true → isUrlByte (getD (blanks l ++ (41 ∷ rest)) 0 0) ≡ false
-unfolding spaced blank
-spaced-end [] rest e = refl
-spaced-end (space ∷ l) rest e = refl
-spaced-end (tab ∷ l) rest e = sym e
-spaced-end (line-feed ∷ l) rest e = sym e
-spaced-end (return ∷ l) rest e = sym e
-
--- What document 01 takes of the grammar: its numbers' domain, and links that are ended so
-abbrev pub Taken : {Colour : Type 0} → E.Content Colour → List Blank → Type 0
-Taken E.blur-default m = T true
-Taken (E.blur l p) m = InDomain (l .size)
-Taken (E.simple-default f) m = T true
-Taken (E.simple f a) m = InDomain (amountNumber a)
-Taken E.hue-rotate-default m = T true
-Taken (E.hue-rotate a) m = InDomain (angleNumber a)
-Taken (E.drop-shadow d) m = ShadowTaken d
-Taken (E.url c l) m = spaced m ≡ true
-
-module _ {Colour : Type 0} (channels : Colour → Color) where
-  -- the document's effect as the reader's value: a link is told by its place n in the text
-  unfoldable pub value : ℕ → E.Effect Colour → FilterValue
-  value n (E.blurred m) = G.Blur (lengthOf m)
-  value n (E.simply f x) = simpleValue f x
-  value n (E.hue-rotated a) = G.HueRotate (angleOf a)
-  value n (E.shadowed c dx dy d) = G.DropShadow (record { color = shadowColor channels c; dx = lengthOf dx; dy = lengthOf dy; deviation = lengthOf d })
-  value n (E.referenced id) = G.Url (record { start = place n; len = length id })
-
 passed : {Colour : Type 0} (d : E.Shadow Colour) (m : List Blank) → (passedWith d m ≡ m) ⊎ (passedWith d m ≡ [])
 passed (E.bare o) m = inl refl
 passed (E.colour-first c b l o) m = inl refl
 passed (E.colour-last o b l c) m = inr refl
-
--- where a link's identifier stands: after `url(`, white space and `#`
-abbrev pub linkPlace : {Colour : Type 0} → E.FilterFunction Colour → ℕ
-linkPlace t = 4 + length (t .before) + 1
 
 module _ (r : NumbersRead) {Colour : Type 0} {colour : Colour → List ℕ} {channels : Colour → Color} (coloured : Coloured colour channels) where
   content-read : (c : E.Content Colour) (l m : List Blank) (rest : List ℕ) → Taken c m
       → Gives (λ B out k. thenFilter out (parseNext (text (E.name colour c) l m (E.argument colour c) rest) 0) k) (value channels (4 + length l + 1) (E.effect c))
       (length (E.name colour c) + 1 + length l + length (E.argument colour c) + length m + 1)
   unfolding E.name E.argument E.effect value run within filterName same parseBlur parseHueRotate unitMarked angleNamed
-  content-read E.blur-default l m rest w = framed-empty (ascii "blur") l m rest (G.Blur (lengthOf E.no-length)) (λ x. refl) (λ s i h B out k. simp (at-curr 41 rest h, nought-is))
+  content-read E.blur-default l m rest w = framed-empty (ascii "blur") l m rest (G.Blur (measureOf E.no-length)) (λ x. refl) (λ s i h B out k. simp (at-curr 41 rest h, nought-is))
   content-read (E.blur t p) l m rest w =
-      framed (ascii "blur") l m (cssLength t) rest (G.Blur (lengthOf (measure t))) refl (first-space (length-first t (blanks m ++ (41 ∷ rest)))) (λ h. blur-at r t p w (closes-after m rest) h)
+      framed (ascii "blur") l m (cssLength t) rest (G.Blur (measureOf (measure t))) refl (first-space (length-first t (blanks m ++ (41 ∷ rest)))) (λ h. blur-at r t p w (closes-after m rest) h)
   content-read (E.simple-default f) l m rest w = framed-empty (simpleName f) l m rest (simpleValue f E.one) (simple-word f) (λ s i h. simple-none f rest h)
   content-read (E.simple f a) l m rest w =
       framed (simpleName f) l m (E.amount a) rest (simpleValue f (E.share a)) (simple-word f _) (first-space (amount-first a (blanks m ++ (41 ∷ rest))))
       (λ h. simple-at r f a w (closes-after m rest) h)
   content-read E.hue-rotate-default l m rest w =
-      framed-empty (ascii "hue-rotate") l m rest (G.HueRotate (angleOf (record { size = E.nought; mark = deg }))) (λ x. refl) (λ s i h B out k. simp (at-curr 41 rest h, nought-is))
+      framed-empty (ascii "hue-rotate") l m rest (G.HueRotate (turnOf (record { size = E.nought; mark = deg }))) (λ x. refl) (λ s i h B out k. simp (at-curr 41 rest h, nought-is))
   content-read (E.hue-rotate a) l m rest w =
-      framed (ascii "hue-rotate") l m (E.cssAngle a) rest (G.HueRotate (angleOf (E.turned a))) refl (first-space (angle-first a (blanks m ++ (41 ∷ rest)))) (λ h. hue-at r a w (closes-after m rest) h)
+      framed (ascii "hue-rotate") l m (E.cssAngle a) rest (G.HueRotate (turnOf (E.turned a))) refl (first-space (angle-first a (blanks m ++ (41 ∷ rest)))) (λ h. hue-at r a w (closes-after m rest) h)
   content-read (E.drop-shadow d) l m rest w =
       rw (shadow-says d)
       (framed-past (ascii "drop-shadow") l m (E.shadowText colour d) rest (shadowOf channels d) (passedWith d m) refl (shadow-unspaced coloured d (blanks m ++ (41 ∷ rest))) (passed d m)
       (λ h. shadow-at r coloured d m rest w h))
   content-read (E.url c cs) l m rest w =
-      framed (ascii "url") l m (35 ∷ urlBytes (c ∷ cs)) rest (value channels (4 + length l + 1) (E.referenced (urlBytes (c ∷ cs)))) refl refl
-      (λ h. url-at c cs (blanks m ++ (41 ∷ rest)) (spaced-end m rest w) h)
+      framed (ascii "url") l m (35 ∷ written (c ∷ cs)) rest (value channels (4 + length l + 1) (E.referenced (written (c ∷ cs)))) refl refl
+      (λ h. url-at c cs (blanks m ++ (41 ∷ rest)) (link-ends m rest w) h)
 
   -- THEOREM: each function of the grammar is read as its effect, whatever follows it
   pub function-read : (t : E.FilterFunction Colour) (rest : List ℕ) → Taken (t .content) (t .after)
@@ -270,15 +222,15 @@ module _ (r : NumbersRead) {Colour : Type 0} {colour : Colour → List ℕ} {cha
       simp append-assoc (rw e at (content-read (t .content) l m rest w B out k))
 
 -- THEOREM: the part of the text that a link's value tells is the identifier, wherever the function stands
-module _ {Colour : Type 0} (colour : Colour → List ℕ) (l m : List Blank) (c : UrlByte) (cs : List UrlByte) where
+module _ {Colour : Type 0} (colour : Colour → List ℕ) (l m : List Blank) (c : UrlCharacter) (cs : List UrlCharacter) where
   abbrev pub linkTo : E.FilterFunction Colour
   linkTo = record { before = l; content = E.url c cs; after = m }
 
   pub link-at : {s : List ℕ} {n : ℕ} (b : List ℕ) → At s n (E.functionText colour linkTo ++ b)
-      → part s (n + linkPlace linkTo) (n + linkPlace linkTo + length (urlBytes (c ∷ cs))) ≡ urlBytes (c ∷ cs)
+      → part s (n + linkPlace linkTo) (n + linkPlace linkTo + length (written (c ∷ cs))) ≡ written (c ∷ cs)
   unfolding E.functionText E.name E.argument part
   link-at {s} {n} b h =
-      let id = urlBytes (c ∷ cs) in
+      let id = written (c ∷ cs) in
       let x = blanks m ++ (41 ∷ b) in
       let a0 : At s n (ascii "url(" ++ (blanks l ++ (35 ∷ (id ++ x)))) = simp append-assoc at h in
       let a1 = at-blanks l (35 ∷ (id ++ x)) (at-step (ascii "url(") (blanks l ++ (35 ∷ (id ++ x))) a0) in

@@ -5,9 +5,9 @@ use mathlib.Core.List.{List, [], _∷_, _++_, append-assoc, append-nil}
 use mathlib.Core.Path.{_≡_, refl, sym, ap, _∙_}
 use native.Mathlib.Omega.{arith}
 use borrow.Author.Tests.{lt-leb}
-use lib.Dec.{T}
 use lib.ListN.{length, getD, length-append, length-map}
-use Rattle.bytes.specs.Bytes.{isSpace}
+use Rattle.bytes.specs.Bytes.{isSpace, isTail, within}
+use Rattle.utf8.specs.Characters.{onCharacter}
 use Rattle.bytes.specs.Moves.{place}
 use Rattle.bytes.specs.Flow.{bind}
 use Rattle.stream.specs.Refusals.{admitPlace}
@@ -26,27 +26,32 @@ use Rattle.joins.specs.Joins.{Next, follow, from, answers}
 use Rattle.standards.specs.CssValues3.{Blank, blanks}
 use Rattle.standards.specs.FilterEffects1 as E
 use Rattle.standards.specs.FilterEffects1.{Simple, brightness, contrast, grayscale, invert, opacity, saturate, sepia, simpleName}
+use Rattle.standards.specs.Domain.{Taken, AllTaken}
+use Rattle.standards.specs.Answers.{simpleValue, value, linkPlace, handed}
 use Rattle.standards.proofs.Reading.{NumbersRead}
 use Rattle.standards.proofs.Cursors.{At, at-start, at-step, at-blanks, at-read, at-spaces, at-still, at-inside}
-use Rattle.standards.proofs.Runs.{Ascii, ascii-admitted, on-ascii}
+use Rattle.standards.proofs.Characters.{at-on, on-start}
+use Rattle.standards.proofs.Tight.{written-admitted}
+use Rattle.standards.proofs.Utf8.{Written}
 use Rattle.standards.proofs.Shadows.{Coloured}
-use Rattle.standards.proofs.EffectTexts.{list-ascii}
-use Rattle.standards.proofs.Effects.{Taken, simpleValue, value, linkPlace, function-read}
+use Rattle.standards.proofs.EffectTexts.{list-written}
+use Rattle.standards.proofs.Effects.{function-read}
 
--- no name starts with a space, or as `none` does
+-- no name starts with a space, with a byte that is beyond ASCII, or as `none` does
 pub record Named (s : List ℕ) : Type 0 where
   pub unspaced : isSpace (getD s 0 0) ≡ false
+  pub begins : isTail (getD s 0 0) ≡ false
   pub no-none : startsWith (ascii "none") s ≡ false
 
 simple-named : (f : Simple) (x : List ℕ) → Named (simpleName f ++ x)
-unfolding simpleName startsWith
-simple-named brightness x = record { unspaced = refl; no-none = refl }
-simple-named contrast x = record { unspaced = refl; no-none = refl }
-simple-named grayscale x = record { unspaced = refl; no-none = refl }
-simple-named invert x = record { unspaced = refl; no-none = refl }
-simple-named opacity x = record { unspaced = refl; no-none = refl }
-simple-named saturate x = record { unspaced = refl; no-none = refl }
-simple-named sepia x = record { unspaced = refl; no-none = refl }
+unfolding simpleName startsWith within
+simple-named brightness x = record { unspaced = refl; begins = refl; no-none = refl }
+simple-named contrast x = record { unspaced = refl; begins = refl; no-none = refl }
+simple-named grayscale x = record { unspaced = refl; begins = refl; no-none = refl }
+simple-named invert x = record { unspaced = refl; begins = refl; no-none = refl }
+simple-named opacity x = record { unspaced = refl; begins = refl; no-none = refl }
+simple-named saturate x = record { unspaced = refl; begins = refl; no-none = refl }
+simple-named sepia x = record { unspaced = refl; begins = refl; no-none = refl }
 
 value-move : {Colour : Type 0} (channels : Colour → Color) (n k : ℕ) (e : E.Effect Colour) → moveFilterValue n (value channels k e) ≡ value channels (n + k) e
 unfolding value simpleValue
@@ -64,15 +69,15 @@ value-move channels n k (E.referenced id) = refl
 
 module _ {Colour : Type 0} (colour : Colour → List ℕ) where
   content-named : (c : E.Content Colour) (x : List ℕ) → Named (E.name colour c ++ x)
-  unfolding E.name startsWith
-  content-named E.blur-default x = record { unspaced = refl; no-none = refl }
-  content-named (E.blur l p) x = record { unspaced = refl; no-none = refl }
+  unfolding E.name startsWith within
+  content-named E.blur-default x = record { unspaced = refl; begins = refl; no-none = refl }
+  content-named (E.blur l p) x = record { unspaced = refl; begins = refl; no-none = refl }
   content-named (E.simple-default f) x = simple-named f x
   content-named (E.simple f a) x = simple-named f x
-  content-named E.hue-rotate-default x = record { unspaced = refl; no-none = refl }
-  content-named (E.hue-rotate a) x = record { unspaced = refl; no-none = refl }
-  content-named (E.drop-shadow d) x = record { unspaced = refl; no-none = refl }
-  content-named (E.url c l) x = record { unspaced = refl; no-none = refl }
+  content-named E.hue-rotate-default x = record { unspaced = refl; begins = refl; no-none = refl }
+  content-named (E.hue-rotate a) x = record { unspaced = refl; begins = refl; no-none = refl }
+  content-named (E.drop-shadow d) x = record { unspaced = refl; begins = refl; no-none = refl }
+  content-named (E.url c l) x = record { unspaced = refl; begins = refl; no-none = refl }
 
   function-named : (t : E.FilterFunction Colour) (x : List ℕ) → Named (E.functionText colour t ++ x)
   unfolding E.functionText
@@ -83,14 +88,14 @@ module _ {Colour : Type 0} (colour : Colour → List ℕ) where
   items-unspaced [] = refl
   items-unspaced (t ∷ ts) = rw append-assoc (function-named (t .function) _ .unspaced)
 
+  pub items-begin : (ts : List (E.Item Colour)) → isTail (getD (E.itemsText colour ts) 0 0) ≡ false
+  unfolding E.itemsText E.itemText within
+  items-begin [] = refl
+  items-begin (t ∷ ts) = rw append-assoc (function-named (t .function) _ .begins)
+
   function-long : (t : E.FilterFunction Colour) → 0 < length (E.functionText colour t)
   unfolding E.functionText
   function-long t = simp length-append (omega arith)
-
--- all of a list is what document 01 takes
-abbrev pub AllTaken : {Colour : Type 0} → List (E.Item Colour) → Type 0
-AllTaken [] = T true
-AllTaken (t ∷ ts) = Taken (t .function .content) (t .function .after) × AllTaken ts
 
 module _ (r : NumbersRead) {Colour : Type 0} {colour : Colour → List ℕ} {channels : Colour → Color} (coloured : Coloured colour channels) where
   -- THEOREM: a function at the front of a text is the step's value, and the white space after it is passed
@@ -122,7 +127,7 @@ pub step-none : {s : List ℕ} {n : ℕ} → At s n [] → parseStep s n ≡ S.E
 unfolding parseStep scan run bind
 step-none h = at-read parseStep moveStepRead (λ a b i. step-shift a b i) h
 
-items-append : {Colour : Type 0} (colour : Colour → List ℕ) (ts us : List (E.Item Colour)) → E.itemsText colour (ts ++ us) ≡ E.itemsText colour ts ++ E.itemsText colour us
+pub items-append : {Colour : Type 0} (colour : Colour → List ℕ) (ts us : List (E.Item Colour)) → E.itemsText colour (ts ++ us) ≡ E.itemsText colour ts ++ E.itemsText colour us
 unfolding E.itemsText
 items-append colour [] us = refl
 items-append colour (t ∷ ts) us = rw (items-append colour ts us) (sym (append-assoc (E.itemText colour t) (E.itemsText colour ts) (E.itemsText colour us)))
@@ -144,36 +149,28 @@ module _ (r : NumbersRead) {Colour : Type 0} {colour : Colour → List ℕ} {cha
 pub list-end : (s : List ℕ) → parseStep s (length s) ≡ S.End
 list-end s = step-none (record { before = s; text = sym (append-nil s); here = refl })
 
--- the outside step of an ASCII text
-module _ (s : List ℕ) (small : length s ≤ 4096) (plain : Ascii s) where
-  next-edged : (n : ℕ) → n ≤ length s → nextFilter s n ≡ edged s (parseStep s n)
+-- the outside step of a text, where a character starts
+module _ (s : List ℕ) (small : length s ≤ 4096) (whole : Written s) where
+  pub next-edged : (n : ℕ) → onCharacter s n ≡ true → nextFilter s n ≡ edged s (parseStep s n)
   unfolding nextFilter stepOf admitPlace
-  next-edged n h = simp (ascii-admitted s plain small, on-ascii s n plain h)
+  next-edged n h = simp (written-admitted s whole small, h)
 
--- the values of a list's functions, from place n on: each with the place after its white space
-module _ {Colour : Type 0} (colour : Colour → List ℕ) (channels : Colour → Color) where
-  unfoldable pub handed : ℕ → List (E.Item Colour) → List FilterStep
-  handed n [] = []
-  handed n (t ∷ ts) =
-      let e = n + length (E.itemText colour t) in
-      O.Value (value channels (n + linkPlace (t .function)) (E.meaning (t .function))) (place e) ∷ handed e ts
-
-  items-long : (ts : List (E.Item Colour)) → length ts ≤ length (E.itemsText colour ts)
-  unfolding E.itemsText E.itemText
-  items-long [] = omega arith
-  items-long (t ∷ ts) = simp length-append (omega (arith, items-long ts, function-long colour (t .function)))
+items-long : {Colour : Type 0} (colour : Colour → List ℕ) (ts : List (E.Item Colour)) → length ts ≤ length (E.itemsText colour ts)
+unfolding E.itemsText E.itemText
+items-long colour [] = omega arith
+items-long colour (t ∷ ts) = simp length-append (omega (arith, items-long colour ts, function-long colour (t .function)))
 
 module _ (r : NumbersRead) {Colour : Type 0} {colour : Colour → List ℕ} {channels : Colour → Color} (coloured : Coloured colour channels) where
-  module _ (s : List ℕ) (small : length s ≤ 4096) (plain : Ascii s) where
+  module _ (s : List ℕ) (small : length s ≤ 4096) (whole : Written s) where
     items-read : (k n : ℕ) (ts : List (E.Item Colour)) → AllTaken ts → length ts ≤ k → At s n (E.itemsText colour ts)
-        → from nextFilter k s n ≡ handed colour channels n ts ++ (O.End (place (length s)) ∷ [])
+        → from nextFilter k s n ≡ handed channels colour n ts ++ (O.End (place (length s)) ∷ [])
     unfolding from follow handed E.itemsText
-    items-read zero n [] w l h = rw (next-edged s small plain n (omega (arith, at-inside h)), step-none h)
-    items-read (suc k) n [] w l h = rw (next-edged s small plain n (omega (arith, at-inside h)), step-none h)
+    items-read zero n [] w l h = rw (next-edged s small whole n (at-on [] whole h (items-begin colour [])), step-none h)
+    items-read (suc k) n [] w l h = rw (next-edged s small whole n (at-on [] whole h (items-begin colour [])), step-none h)
     items-read zero n (t ∷ ts) w l h = absurd (omega arith)
     items-read (suc k) n (t ∷ ts) w l h =
         let e = n + length (E.itemText colour t) in
-        rw (next-edged s small plain n (omega (arith, at-inside h)), step-at r coloured t ts (w .0) h)
+        rw (next-edged s small whole n (at-on (E.itemsText colour (t ∷ ts)) whole h (items-begin colour (t ∷ ts))), step-at r coloured t ts (w .0) h)
         (ap (λ (x : List FilterStep). O.Value (value channels (n + linkPlace (t .function)) (E.meaning (t .function))) (place e) ∷ x)
         (items-read k e ts (w .1) (omega arith) (at-step (E.itemText colour t) (E.itemsText colour ts) h)))
 
@@ -185,10 +182,10 @@ from-same next (suc k) s i j e = rw e
 module _ (r : NumbersRead) {Colour : Type 0} {colour : Colour → List ℕ} {channels : Colour → Color} (coloured : Coloured colour channels) where
   -- THEOREM: a list of the grammar hands out the effects of its functions, in order, and then ends
   pub list-read : (l : E.FilterValueList Colour) → AllTaken (l .first ∷ l .others) → length (E.listText colour l) ≤ 4096
-      → answers nextFilter (E.listText colour l) 0 ≡ handed colour channels (length (l .leading)) (l .first ∷ l .others) ++ (O.End (place (length (E.listText colour l))) ∷ [])
+      → answers nextFilter (E.listText colour l) 0 ≡ handed channels colour (length (l .leading)) (l .first ∷ l .others) ++ (O.End (place (length (E.listText colour l))) ∷ [])
   unfolding answers E.listText
   list-read l w small =
-      let plain = list-ascii coloured l in
+      let whole = list-written coloured l in
       let ts = l .first ∷ l .others in
       let b = E.itemsText colour ts in
       let s = blanks (l .leading) ++ b in
@@ -198,5 +195,5 @@ module _ (r : NumbersRead) {Colour : Type 0} {colour : Colour → List ℕ} {cha
       let c : At s n b = rw z at (at-blanks (l .leading) b a) in
       let sc : scan isSpace s 0 ≡ n = at-spaces (l .leading) b (items-unspaced colour ts) a ∙ z in
       let p : parseStep s 0 ≡ parseStep s n = rw (← sc) (sym (step-spaces s 0)) in
-      let e : nextFilter s 0 ≡ nextFilter s n = rw (next-edged s small plain 0 (omega arith), next-edged s small plain n (omega (arith, at-inside c)), p) in
-      from-same nextFilter (length s) s 0 n e ∙ items-read r coloured s small plain (length s) n ts w (omega (arith, items-long colour channels ts, at-inside c)) c
+      let e : nextFilter s 0 ≡ nextFilter s n = rw (next-edged s small whole 0 (on-start s), next-edged s small whole n (at-on b whole c (items-begin colour ts)), p) in
+      from-same nextFilter (length s) s 0 n e ∙ items-read r coloured s small whole (length s) n ts w (omega (arith, items-long colour ts, at-inside c)) c

@@ -29,15 +29,16 @@ use Rattle.color.specs.declared.ColorRead.{ColorRead}
 use Rattle.color.specs.declared.ColorRead.the-variants as C
 use Rattle.standards.specs.Ieee754.{double}
 use Rattle.standards.specs.CssValues3.{Blank, space, tab, line-feed, return, blank, blanks, Number, number, exactly, percentage}
-use Rattle.standards.specs.CssColor3.{Spelling, spelling, Integer, asNumber, integer, Spaced, spaced, Rgb, integers, percentages, Hsl, rgb-values, hsl-values, Functional, functional, channel, percent}
+use Rattle.standards.specs.CssColor3.{Spelling, spelling, Integer, asNumber, integer, Spaced, spaced, Rgb, integers, percentages, Hsl, rgb-values, hsl-values, Functional, functional, channel}
 use Rattle.standards.specs.CssColor3 as K
 use Rattle.standards.specs.Domain.{InDomain, RgbInDomain, HslInDomain, AllInDomain}
-use Rattle.standards.proofs.Reading.{Ends, ends-comma, ends-bracket, ends-percent, ends-blank, NumbersRead, number-there, percent-there}
+use Rattle.standards.specs.Answers.{Ends, portion, hslOf}
+use Rattle.standards.proofs.Reading.{ends-comma, ends-bracket, ends-percent, ends-blank, NumbersRead, number-there, percent-there}
 use Rattle.standards.proofs.Runs.{every, number-first}
 use Rattle.standards.proofs.Cursors.{At, at-step, at-blanks, at-spaces, at-byte, at-curr, at-other, at-more, at-drop, curr-not}
 use Rattle.standards.proofs.Spellings.{spelled-lower}
 use Rattle.standards.proofs.Colours.{letters, word-first}
-use Rattle.standards.proofs.Clipped.{portion, integer-channel, percent-channel}
+use Rattle.standards.proofs.Clipped.{integer-channel}
 
 -- A number is read, and the text goes on with `rest` from the place after it.
 record Reads (s : List ℕ) (x : NumberRead) (v : Float) (rest : List ℕ) : Type 0 where
@@ -245,17 +246,14 @@ abbrev pub rgb-colour : Rgb → Color
 rgb-colour (integers x y z) = rgba (channel (x .value)) (channel (y .value)) (channel (z .value)) 255
 rgb-colour (percentages x y z) = rgba (scaledChannel (portion (x .value))) (scaledChannel (portion (y .value))) (scaledChannel (portion (z .value))) 255
 
-abbrev pub hsl-colour : Hsl → Color
-hsl-colour t = hslColor (double (exactly (t .hue .value))) (portion (t .saturation .value)) (portion (t .lightness .value))
-
 abbrev pub faded : Color → Spaced Number → Color
 faded c a = rgba (c .red) (c .green) (c .blue) (scaledChannel (double (exactly (a .value))))
 
 abbrev pub colour : Functional → Color
 colour (K.rgb w t) = rgb-colour t
 colour (K.rgba w t a) = faded (rgb-colour t) a
-colour (K.hsl w t) = hsl-colour t
-colour (K.hsla w t a) = faded (hsl-colour t) a
+colour (K.hsl w t) = hslOf t
+colour (K.hsla w t a) = faded (hslOf t) a
 
 abbrev pub numbered : Spaced Integer → Spaced Number
 numbered v = record { before = v .before; value = asNumber (v .value); after = v .after }
@@ -272,7 +270,7 @@ module _ (r : NumbersRead) {s b rest all : List ℕ} (e : Stop b rest) (i : ℕ)
       (λ j g. simp (integer-channel (x .value) (ok .0), integer-channel (y .value) (ok .1 .0), integer-channel (z .value) (ok .1 .1)) (tail j g))
   rgb-gives (percentages x y z) ok f tail = percentages-give r x y z (ok .0) (ok .1 .0) (ok .1 .1) e i c (simp append-assoc at f) tail
 
-  hsl-all : (t : Hsl) → HslInDomain t → At s i (40 ∷ (hsl-values t ++ b)) → ((j : ℕ) → At s j rest → Gives s (parseAlpha s j (hsl-colour t)) c all) → Gives s (parseHsl s i) c all
+  hsl-all : (t : Hsl) → HslInDomain t → At s i (40 ∷ (hsl-values t ++ b)) → ((j : ℕ) → At s j rest → Gives s (parseAlpha s j (hslOf t)) c all) → Gives s (parseHsl s i) c all
   unfolding hsl-values
   hsl-all t ok f tail = hsl-gives r (t .hue) (t .saturation) (t .lightness) (ok .0) (ok .1 .0) (ok .1 .1) e i c (simp append-assoc at f) tail
 
@@ -295,17 +293,9 @@ functional-read r (K.rgba w t a) ok rest =
     (rw (rgb-word w refl more refl) (rgb-gives r comma _ _ t (ok .0) (opened w refl more) (λ j g. alpha-gives r a (ok .1) (rgb-colour t) g)))
 functional-read r (K.hsl w t) ok rest =
     let more = hsl-values t ++ (41 ∷ rest) in
-    ended (functional (K.hsl w t)) (call w refl more) rest (hsl-colour t) (simp append-assoc)
+    ended (functional (K.hsl w t)) (call w refl more) rest (hslOf t) (simp append-assoc)
     (rw (hsl-word w refl more refl refl) (hsl-all r bracket _ _ t ok (opened w refl more) (λ j g. opaque-gives _ g)))
 functional-read r (K.hsla w t a) ok rest =
     let more = hsl-values t ++ (44 ∷ (spaced number a ++ (41 ∷ rest))) in
-    ended (functional (K.hsla w t a)) (call w refl more) rest (faded (hsl-colour t) a) (simp append-assoc)
-    (rw (hsl-word w refl more refl refl) (hsl-all r comma _ _ t (ok .0) (opened w refl more) (λ j g. alpha-gives r a (ok .1) (hsl-colour t) g)))
-
--- THEOREM. Of whole percentages, rgb() is read as the whole numbers nearest to 255 hundredths of them, clipped to 0 .. 255.
-pub whole-percentages-read : NumbersRead → (w : Spelling (ascii "rgb")) (x y z : Spaced Integer) → RgbInDomain (integers x y z) → (rest : List ℕ)
-    → let t = K.rgb w (percentages (numbered x) (numbered y) (numbered z)) in
-    parseColor (functional t ++ rest) 0 ≡ C.Value (rgba (percent (asNumber (x .value))) (percent (asNumber (y .value))) (percent (asNumber (z .value))) 255) (place (length (functional t)))
-whole-percentages-read r w x y z ok rest =
-    functional-read r (K.rgb w (percentages (numbered x) (numbered y) (numbered z))) ok rest
-    ∙ simp (percent-channel (x .value), percent-channel (y .value), percent-channel (z .value))
+    ended (functional (K.hsla w t a)) (call w refl more) rest (faded (hslOf t) a) (simp append-assoc)
+    (rw (hsl-word w refl more refl refl) (hsl-all r comma _ _ t (ok .0) (opened w refl more) (λ j g. alpha-gives r a (ok .1) (hslOf t) g)))

@@ -18,7 +18,7 @@ use Rattle.stream.specs.declared.Admission.the-variants.{Admitted}
 use Rattle.bytes.proofs.Ranges.{either, allFrom, across, within-ge, within-le}
 use Rattle.names.proofs.Tables.{holds-true}
 use Rattle.color.specs.Answer.{fromStr}
-use Rattle.color.specs.Color.{rgba, parseColor}
+use Rattle.color.specs.Color.{parseColor}
 use Rattle.color.specs.Hex.{fromHex, shortHex, hexPair, shortColor, longColor, parseHex}
 use Rattle.color.specs.Moves.{moveColorRead}
 use Rattle.color.specs.declared.Color.{Color}
@@ -26,12 +26,10 @@ use Rattle.color.specs.declared.ColorRead.the-variants as C
 use Rattle.color.specs.declared.ColorAnswer.the-variants as A
 use Rattle.color.proofs.Digits.{value-numeral, value-small, value-capital}
 use Rattle.standards.specs.CssValues3.{Blank, blanks}
-use Rattle.standards.specs.CssColor4.{Digit, numeral, small, capital, character, value, hashed, HexColor, three, four, six, eight, digits, hexText, Channels, channels}
+use Rattle.standards.specs.CssColor4.{Digit, numeral, small, capital, character, value, hashed, HexColor, three, four, six, eight, digits, hexText, channels}
+use Rattle.standards.specs.Answers.{colorOf}
 use Rattle.standards.proofs.Runs.{every-map, run-map, isAscii, blanks-end}
 use Rattle.standards.proofs.Colours.{after-blanks, hash-first, color-text, refused-text}
-
-abbrev pub colour : Channels → Color
-colour c = rgba (c .red) (c .green) (c .blue) (c .alpha)
 
 -- a test that holds of the characters of 0 to 9, of a to f and of A to F holds of each digit's
 by-digit : (t : ℕ → Bool) → T (allFrom t 48 10) → T (allFrom t 97 6) → T (allFrom t 65 6) → (d : Digit) → t (character d) ≡ true
@@ -59,7 +57,7 @@ module _ (rest : List ℕ) (e : isHexDigit (getD rest 0 0) ≡ false) where
   unfolding scan
   run-is ds = simp (run-map isHexDigit character is-hex ds rest e)
 
-  digits-read : (t : HexColor) → parseHex (hexText t ++ rest) 1 ≡ C.Value (colour (channels t)) (place (1 + length (digits t)))
+  digits-read : (t : HexColor) → parseHex (hexText t ++ rest) 1 ≡ C.Value (colorOf (channels t)) (place (1 + length (digits t)))
   unfolding parseHex bind digits channels shortColor longColor shortHex hexPair
   digits-read (three r g b) = simp (run-is (r ∷ g ∷ b ∷ []), has-value)
   digits-read (four r g b a) = simp (run-is (r ∷ g ∷ b ∷ a ∷ []), has-value)
@@ -68,12 +66,12 @@ module _ (rest : List ℕ) (e : isHexDigit (getD rest 0 0) ≡ false) where
 
 -- THEOREM. Every text of the grammar is read with its channels, and reading goes on after it
 pub hex-read : (t : HexColor) (rest : List ℕ) → isHexDigit (getD rest 0 0) ≡ false
-    → parseColor (hexText t ++ rest) 0 ≡ C.Value (colour (channels t)) (place (1 + length (digits t)))
+    → parseColor (hexText t ++ rest) 0 ≡ C.Value (colorOf (channels t)) (place (1 + length (digits t)))
 hex-read t rest e = hash-first (map character (digits t) ++ rest) ∙ digits-read rest e t
 
 -- and so after white space
 pub hex-spaced : (l : List Blank) (t : HexColor) (rest : List ℕ) → isHexDigit (getD rest 0 0) ≡ false
-    → parseColor (blanks l ++ (hexText t ++ rest)) 0 ≡ C.Value (colour (channels t)) (place (length l + (1 + length (digits t))))
+    → parseColor (blanks l ++ (hexText t ++ rest)) 0 ≡ C.Value (colorOf (channels t)) (place (length l + (1 + length (digits t))))
 hex-spaced l t rest e = after-blanks l (hexText t ++ rest) ∙ ap (moveColorRead (length l)) (hex-read t rest e)
 
 hashed-length : (ds : List Digit) → length (hashed ds) ≡ 1 + length ds
@@ -81,10 +79,10 @@ hashed-length ds = omega (arith, length-map ds character)
 
 -- and as a whole text with white space about it
 pub hex-text : (l m : List Blank) (t : HexColor) → length l + (1 + length (digits t) + length m) ≤ 4096
-    → fromStr (blanks l ++ (hexText t ++ blanks m)) ≡ A.Value (colour (channels t))
+    → fromStr (blanks l ++ (hexText t ++ blanks m)) ≡ A.Value (colorOf (channels t))
 unfolding within
 hex-text l m t h =
-    color-text l m (hexText t) (colour (channels t)) (rw (hashed-length (digits t)) h) (every-map isAscii character is-ascii (digits t))
+    color-text l m (hexText t) (colorOf (channels t)) (rw (hashed-length (digits t)) h) (every-map isAscii character is-ascii (digits t))
     (rw (hashed-length (digits t)) (hex-read t (blanks m) (blanks-end isHexDigit refl refl refl refl refl m)))
 
 few : (t : HexColor) → length (digits t) ≤ 8
@@ -94,7 +92,7 @@ few (four r g b a) = omega arith
 few (six r r′ g g′ b b′) = omega arith
 few (eight r r′ g g′ b b′ a a′) = omega arith
 
-pub hex-whole : (t : HexColor) → fromStr (hexText t) ≡ A.Value (colour (channels t))
+pub hex-whole : (t : HexColor) → fromStr (hexText t) ≡ A.Value (colorOf (channels t))
 hex-whole t = rw append-nil at (hex-text [] [] t (omega (arith, few t)))
 
 -- a number of digits that no text of the grammar has
@@ -153,7 +151,7 @@ pub record Written (s : List ℕ) (c : Color) : Type 0 where
   pub rest : List ℕ
   pub text : hexText tree ++ rest ≡ s
   pub ended : isHexDigit (getD rest 0 0) ≡ false
-  pub read : c ≡ colour (channels tree)
+  pub read : c ≡ colorOf (channels tree)
 
 unfit : (n : ℕ) → T (not (eqb n 3 || (eqb n 4 || (eqb n 6 || eqb n 8)))) → Unfit n
 unfit n t = record { not-3 = λ q. rw q at t; not-4 = λ q. rw q at t; not-6 = λ q. rw q at t; not-8 = λ q. rw q at t }
@@ -184,5 +182,5 @@ hex-only s c p e = go (every-run s)
     go v =
         let t = tree-of c p (v .rest) (v .ended) (v .taken) (rw (v .joined) e) in
         let j : hexText (t .0) ++ v .rest ≡ 35 ∷ s = rw (t .1, v .joined) refl in
-        let r : parseColor (35 ∷ s) 0 ≡ C.Value (colour (channels (t .0))) (place (1 + length (digits (t .0)))) = rw j at (hex-read (t .0) (v .rest) (v .ended)) in
+        let r : parseColor (35 ∷ s) 0 ≡ C.Value (colorOf (channels (t .0))) (place (1 + length (digits (t .0)))) = rw j at (hex-read (t .0) (v .rest) (v .ended)) in
         record { tree = t .0; rest = v .rest; text = j; ended = v .ended; read = cc }

@@ -18,23 +18,20 @@ use Rattle.numbers.specs.Powers.{hundred}
 use Rattle.numbers.specs.declared.NumberRead.{NumberRead}
 use Rattle.numbers.specs.declared.NumberRead.the-variants as N
 use Rattle.length.specs.Lengths.{unitAt, unitWidth, parseLength}
-use Rattle.length.specs.declared.Length.{Length}
-use Rattle.length.specs.declared.LengthUnit.{LengthUnit}
-use Rattle.length.specs.declared.LengthUnit.the-variants as U
 use Rattle.length.specs.declared.LengthRead.the-variants as L
-use Rattle.angle.specs.declared.Angle.{Angle}
 use Rattle.angle.specs.declared.AngleRead.the-variants as R
 use Rattle.filter_functions.specs.Values.{isPercent, parseFilterAngle}
 use Rattle.standards.specs.Ieee754.{double}
 use Rattle.standards.specs.CssValues3.{Blank, blank, blanks, space, tab, line-feed, return, isMinus, joined, Number, number, exactly, isInteger, angleUnit}
-use Rattle.standards.specs.Domain.{InDomain}
+use Rattle.standards.specs.Domain.{InDomain, amountNumber, angleNumber}
 use Rattle.standards.specs.FilterEffects1 as E
-use Rattle.standards.specs.FilterEffects1.{LengthMark, unmarked, marked, lengthMark, CssLength, cssLength, Measure, measure}
+use Rattle.standards.specs.FilterEffects1.{LengthMark, unmarked, marked, lengthMark, CssLength, cssLength, measure}
+use Rattle.standards.specs.Answers.{Ends, Stops, numberOf, angleNamed, unitMarked, measureOf, turnOf}
 use Rattle.standards.proofs.Doubles.{under-pos}
 use Rattle.standards.proofs.Signs.{double-sign, hundredth-sign}
-use Rattle.standards.proofs.Reading.{Ends, ends-bracket, ends-blank, NumbersRead, number-there, percent-there}
+use Rattle.standards.proofs.Reading.{ends-bracket, ends-blank, NumbersRead, number-there, percent-there}
 use Rattle.standards.proofs.Runs.{no-space, First, number-first}
-use Rattle.standards.proofs.Units.{unitNamed, angleNamed, unit-ends, angle-ends, unit-there, angle-there, unit-width, unit-no-percent, Stops, no-unit, no-angle-unit}
+use Rattle.standards.proofs.Units.{unit-ends, angle-ends, unit-there, angle-there, unit-width, unit-no-percent, no-unit, no-angle-unit}
 use Rattle.standards.proofs.Cursors.{At, at-step, at-drop, at-still, curr-not}
 
 pub positive : (t : Number) → isMinus (t .signed) ≡ false → signOf (double (exactly t)) ≡ false
@@ -94,17 +91,6 @@ unfolding lengthMark
 mark-ends unmarked h = closes-stops h .ends
 mark-ends (marked u) {b} h = unit-ends u b
 
--- the readers' units and values
-unfoldable pub unitMarked : LengthMark → LengthUnit
-unitMarked unmarked = U.None
-unitMarked (marked u) = unitNamed u
-
-abbrev pub lengthOf : Measure → Length
-lengthOf m = record { number = m .size; unit = unitMarked (m .mark) }
-
-abbrev pub angleOf : E.Turned → Angle
-angleOf a = record { number = a .size; unit = angleNamed (a .mark) }
-
 mark-width : (u : LengthMark) → unitWidth (unitMarked u) ≡ length (lengthMark u)
 unfolding unitWidth lengthMark unitMarked
 mark-width unmarked = refl
@@ -115,11 +101,11 @@ unfolding lengthMark unitMarked
 mark-at {s} {i} unmarked {b} c h = no-unit s i b (closes-stops c) (at-drop h)
 mark-at {s} {i} (marked u) {b} c h = unit-there s i u b (at-drop h)
 
-abbrev numberOf : Number → ℕ → NumberRead
-numberOf t n = N.Value (record { value = double (exactly t); whole = isInteger t; end = place n }) (place n)
+abbrev numberRead : Number → ℕ → NumberRead
+numberRead t n = N.Value (numberOf t n) (place n)
 
 module _ (r : NumbersRead) {s : List ℕ} {i : ℕ} where
-  pub number-at : (t : Number) {b : List ℕ} → InDomain t → Ends b → At s i (number t ++ b) → parseNumber s i ≡ numberOf t (i + length (number t))
+  pub number-at : (t : Number) {b : List ℕ} → InDomain t → Ends b → At s i (number t ++ b) → parseNumber s i ≡ numberRead t (i + length (number t))
   number-at t {b} d e h =
       let z : i + (0 + length (number t)) ≡ i + length (number t) = omega arith in
       rw z at (number-there r [] t b d e h)
@@ -127,7 +113,7 @@ module _ (r : NumbersRead) {s : List ℕ} {i : ℕ} where
   -- a length, and what follows closes it
   pub length-at : (l : CssLength) {b : List ℕ} → InDomain (l .size) → Closes b → At s i (cssLength l ++ b)
       → parseLength s i
-      ≡ L.Value (lengthOf (measure l)) (record { value = measure l .size; whole = isInteger (l .size); end = place (i + length (number (l .size))) }) (place (i + length (cssLength l)))
+      ≡ L.Value (measureOf (measure l)) (record { value = measure l .size; whole = isInteger (l .size); end = place (i + length (number (l .size))) }) (place (i + length (cssLength l)))
   unfolding parseLength cssLength measure bind
   length-at l {b} d c h =
       let n = number (l .size) in
@@ -138,10 +124,6 @@ module _ (r : NumbersRead) {s : List ℕ} {i : ℕ} where
 
 pub first-space : {x : ℕ} → First x → isSpace x ≡ false
 first-space {x} f = no-space x (omega (arith, f .low))
-
-unfoldable pub amountNumber : E.Amount → Number
-amountNumber (E.plain n) = n .of
-amountNumber (E.percentage n) = n .of
 
 pub share-sign : (a : E.Amount) → signOf (E.share a) ≡ false
 unfolding E.share
@@ -162,14 +144,10 @@ module _ (r : NumbersRead) {s : List ℕ} {i : ℕ} where
       let z : i + (0 + length t + 1) ≡ i + length (t ++ (37 ∷ [])) = omega (arith, length-append t (37 ∷ [])) in
       percent-there r [] (n .of) b d g ∙ simp (y, z, hundred-is)
 
-unfoldable pub angleNumber : E.CssAngle → Number
-angleNumber (E.angle n u) = n
-angleNumber (E.zero n z) = n
-
 module _ (r : NumbersRead) {s : List ℕ} {i : ℕ} where
   pub angle-at : (a : E.CssAngle) {b : List ℕ} (k : ℕ) → InDomain (angleNumber a) → Closes b → At s i (E.cssAngle a ++ b)
       → parseFilterAngle s k i
-      ≡ R.Value (angleOf (E.turned a)) (record { value = E.turned a .size; whole = isInteger (angleNumber a); end = place (i + length (number (angleNumber a))) })
+      ≡ R.Value (turnOf (E.turned a)) (record { value = E.turned a .size; whole = isInteger (angleNumber a); end = place (i + length (number (angleNumber a))) })
       (place (i + length (E.cssAngle a)))
   unfolding E.cssAngle E.turned angleNumber angleNamed parseFilterAngle bind
   angle-at (E.angle n u) {b} k d c h =

@@ -1,29 +1,24 @@
 -- SVG 2's lengths and angles are what the readers read; an angle's degrees are the document's, step by step in doubles.
-use Prim.Native.Nat.{ℕ, _+_, _*_, _^_, _≤_}
+use Prim.Native.Nat.{ℕ, _+_, _^_, _≤_}
 use mathlib.Core.Bool.{false}
 use mathlib.Core.List.{List, [], _++_, append-assoc, append-nil}
-use mathlib.Core.Path.{_≡_, refl, sym, ap, _∙_}
+use mathlib.Core.Path.{_≡_, refl}
 use native.Mathlib.Nat.{add-zero}
 use native.Mathlib.Omega.{arith}
 use borrow.Author.Tests.{le-ltb}
-use lib.Dec.{T, eqb, ltb, eqb→eq}
-use lib.Ieee.{Float, binary64, round, mul, div, ofBits, toBits, fits}
-use lib.Ieee.Bits.{ofBits-toBits}
-use lib.Ieee.Fits.{round-fits, div-fits}
+use lib.Dec.{ltb}
+use lib.Ieee.{Float, binary64, round, ofBits}
 use lib.ListN.{length, drop, length-append, length-map}
 use Rattle.bytes.specs.Moves.{place}
 use Rattle.bytes.specs.Flow.{bind}
 use Rattle.bytes.specs.Words.{startsWith}
 use Rattle.bytes.specs.declared.Place.{Place}
-use Rattle.bytes.proofs.Ranges.{across}
 use Rattle.numbers.specs.Number.{parseNumber}
-use Rattle.numbers.specs.declared.Number.{Number}
 use Rattle.numbers.specs.declared.NumberRead.the-variants as N
 use Rattle.length.specs.Lengths as LS
 use Rattle.length.specs.Lengths.{unitAt, unitRest, unitWidth, parseLength}
 use Rattle.length.specs.declared.Length.{Length}
 use Rattle.length.specs.declared.LengthUnit.{LengthUnit}
-use Rattle.length.specs.declared.LengthUnit.the-variants as U
 use Rattle.length.specs.declared.LengthRead.the-variants as L
 use Rattle.length.specs.declared.LengthAnswer.the-variants as LA
 use Rattle.angle.specs.Angles as AS
@@ -35,32 +30,19 @@ use Rattle.angle.specs.declared.AngleUnit.the-variants as W
 use Rattle.angle.specs.declared.AngleRead.the-variants as R
 use Rattle.angle.specs.declared.AngleAnswer.the-variants as RA
 use Rattle.standards.specs.Ieee754.{double}
-use Rattle.standards.specs.CssValues3 as C
-use Rattle.standards.specs.CssValues3.{Blank, blanks, number, exactly, isInteger, deg, grad, rad, turn}
+use Rattle.standards.specs.CssValues3.{Blank, blanks, number, exactly, deg, grad, rad, turn}
 use Rattle.standards.specs.Domain.{InDomain}
 use Rattle.standards.specs.Svg2 as S
 use Rattle.standards.specs.Svg2.{unitless, lengthUnit, lengthText, unmarked, angleUnit, angleText, inDegrees, ratio, radianBelow, radianAbove}
-use Rattle.standards.proofs.Reading.{Ends, ends-percent, NumbersRead}
+use Rattle.standards.specs.Answers.{Ends, Stops, numberOf, angleNamed, unitOf, lengthOf, angleUnitOf, angleOf}
+use Rattle.standards.proofs.Reading.{ends-percent, NumbersRead}
 use Rattle.standards.proofs.Runs.{Ascii, ascii-append, ascii-admitted, blanks-ascii, number-ascii}
 use Rattle.standards.proofs.Cursors.{drop-past}
-use Rattle.standards.proofs.Units.{unitNamed, angleNamed, unit-ends, angle-ends, unit-there, angle-there, unit-width, unit-ascii, angle-unit-ascii, Stops, stops-end, no-unit, no-angle-unit}
+use Rattle.standards.proofs.Units.{unit-ends, angle-ends, unit-there, angle-there, unit-width, unit-ascii, angle-unit-ascii, stops-end, no-unit, no-angle-unit}
 
 -- what is read after white space up to the end leaves nothing
 at-end : (l : List Blank) (w : List ℕ) → ltb (length l + length w) (length (blanks l ++ w)) ≡ false
 at-end l w = le-ltb (length l + length w) (length (blanks l ++ w)) (simp (length-append, length-map) (omega arith))
-
--- the units of the document, as the readers name them
-unfoldable pub unitOf : S.LengthUnit → LengthUnit
-unitOf S.unitless = U.None
-unitOf (S.unit u) = unitNamed u
-unitOf S.percent = U.Percent
-
--- the number as it was written, of which the reader tells whether it is an integer and where its own text ended
-abbrev pub numberOf : C.Number → ℕ → Number
-numberOf n end = record { value = double (exactly n); whole = isInteger n; end = place end }
-
-abbrev pub lengthOf : S.Length → Length
-lengthOf t = record { number = double (exactly (t .number-of)); unit = unitOf (t .unit-of) }
 
 length-unit-ends : (u : S.LengthUnit) (rest : List ℕ) → (u ≡ unitless → Stops rest) → Ends (lengthUnit u ++ rest)
 unfolding lengthUnit
@@ -86,7 +68,7 @@ marked-ascii S.unitless = refl
 marked-ascii (S.unit u) = unit-ascii u
 marked-ascii S.percent = refl
 
-length-ascii : (t : S.Length) → Ascii (lengthText t)
+pub length-ascii : (t : S.Length) → Ascii (lengthText t)
 unfolding lengthText
 length-ascii t = ascii-append (number (t .number-of)) (lengthUnit (t .unit-of)) (number-ascii (t .number-of)) (marked-ascii (t .unit-of))
 
@@ -116,14 +98,6 @@ module _ (r : NumbersRead) (l : List Blank) where
       = rw append-nil at (length-read t [] d (λ e. stops-end)) in
       let b : ltb (length l + length (lengthText t)) (length s) ≡ false = at-end l (lengthText t) in
       simp (ascii-admitted s (ascii-append (blanks l) (lengthText t) (blanks-ascii l) (length-ascii t)) h, a, b)
-
--- angles: no unit means degrees
-unfoldable pub angleUnitOf : S.AngleUnit → AngleUnit
-angleUnitOf S.unmarked = W.Degrees
-angleUnitOf (S.marked u) = angleNamed u
-
-abbrev pub angleOf : S.Angle → Angle
-angleOf t = record { number = double (exactly (t .number-of)); unit = angleUnitOf (t .unit-of) }
 
 angle-unit-ends : (u : S.AngleUnit) (rest : List ℕ) → (u ≡ unmarked → Stops rest) → Ends (angleUnit u ++ rest)
 unfolding angleUnit
@@ -197,26 +171,3 @@ degrees-are (S.marked deg) n = refl
 degrees-are (S.marked grad) n = refl
 degrees-are (S.marked rad) n = refl
 degrees-are (S.marked turn) n = refl
-
--- a turn is 360 degrees
-pub one-turn : inDegrees (S.marked turn) (double (ratio 1 1)) ≡ double (ratio 360 1)
-unfolding inDegrees double round mul
-one-turn = refl
-
--- and every whole number of gradians up to a full circle comes to the double nearest to its degrees, by a test computed at each
-same-bits : (x y : Float) → T (fits binary64 x) → T (fits binary64 y) → toBits binary64 x ≡ toBits binary64 y → x ≡ y
-same-bits x y p q e = sym (ofBits-toBits binary64 x p) ∙ ap (ofBits binary64) e ∙ ofBits-toBits binary64 y q
-
-double-fits : (n d : ℕ) → T (fits binary64 (double (ratio n d)))
-unfolding double
-double-fits n d = round-fits binary64 false n d
-
-gradians-fit : (n : Float) → T (fits binary64 (inDegrees (S.marked grad) n))
-unfolding inDegrees
-gradians-fit n = div-fits binary64 (mul binary64 n (double (ratio 180 1))) (double (ratio 200 1))
-
-pub whole-gradians : (n : ℕ) → n ≤ 400 → inDegrees (S.marked grad) (double (ratio n 1)) ≡ double (ratio (n * 360) 400)
-unfolding inDegrees double round mul div toBits
-whole-gradians n h =
-    same-bits _ _ (gradians-fit (double (ratio n 1))) (double-fits (n * 360) 400)
-    (eqb→eq _ _ (across (λ k. eqb (toBits binary64 (inDegrees (S.marked grad) (double (ratio k 1)))) (toBits binary64 (double (ratio (k * 360) 400)))) 0 401 tt n (omega arith) (omega arith)))

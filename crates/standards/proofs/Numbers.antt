@@ -24,7 +24,8 @@ use Rattle.numbers.proofs.Nearest.{number-nearest}
 use Rattle.standards.specs.Ieee754.{double}
 use Rattle.standards.specs.CssValues3.{Blank, blanks, Digit, numeral, numerals, spelt, Sign, unsigned, plus, minus, sign, isMinus, Digits, whole, dotted, digits, Exponent, absent, small, capital, exponent, Number, number, joined, fraction-digits, power, falls, exactly, isWhole, isAbsent, isInteger}
 use Rattle.standards.specs.Domain.{Near, InDomain}
-use Rattle.standards.proofs.Reading.{Ends, ends-percent, NumbersRead}
+use Rattle.standards.specs.Answers.{Ends}
+use Rattle.standards.proofs.Reading.{ends-percent, NumbersRead}
 use Rattle.standards.proofs.Runs.{no-space}
 use Rattle.standards.proofs.Cursors.{byte-on, byte-here, drop-on, inside, curr-is, past, map-past, map-scan, blanks-past, blanks-scan, spaced-past}
 

@@ -5,7 +5,7 @@ use mathlib.Core.List.{List, [], _++_, append-assoc, append-nil}
 use mathlib.Core.Path.{_≡_, refl, sym, ap, _∙_}
 use native.Mathlib.Omega.{arith}
 use borrow.Author.Tests.{ne-eqb, le-leb, lt-leb, ltb-true}
-use lib.Dec.{T, eqb, leb, ltb}
+use lib.Dec.{eqb, leb, ltb}
 use lib.ListN.{length, getD, drop, length-append, length-map}
 use lib.Seq.{drop-at, take-at}
 use Rattle.utf8.specs.Blanks.{blank1}
@@ -29,16 +29,18 @@ use Rattle.paint.specs.Reading.{parseFallback, parseLinked, parsePlain, parsePa
 use Rattle.paint.specs.declared.Paint.{Paint}
 use Rattle.paint.specs.declared.Paint.the-variants as P
 use Rattle.paint.specs.declared.PaintAnswer.the-variants as A
-use Rattle.paint.specs.declared.PaintFallback.{PaintFallback}
 use Rattle.paint.specs.declared.PaintFallback.the-variants as F
 use Rattle.paint.specs.declared.PaintRead.the-variants as R
 use Rattle.standards.specs.CssValues3.{Blank, blanks}
 use Rattle.standards.specs.Svg2 as S
 use Rattle.standards.specs.Svg2.{Url, name, opening, closing, urlText, fallbackText, paintText}
+use Rattle.standards.specs.Domain.{Closes, PaintCloses}
+use Rattle.standards.specs.Answers.{fallbackOf, paintOf}
 use Rattle.standards.proofs.Cursors.{differs, blanks-past, blanks-scan, drop-past}
-use Rattle.standards.proofs.Links.{Closes, link-read, url-tight}
-use Rattle.standards.proofs.Runs.{Ascii, ascii-append, ascii-admitted, blanks-ascii}
-use Rattle.standards.proofs.Tight.{Tight, start-is, trim-is, tight-around}
+use Rattle.standards.proofs.Links.{link-read, url-clean}
+use Rattle.standards.proofs.Runs.{Ascii}
+use Rattle.standards.proofs.Tight.{Tight, Clean, tight-clean, clean-around, clean-written, start-is, trim-is, blanks-written, written-append, written-admitted}
+use Rattle.standards.proofs.Utf8.{Written}
 use Rattle.bytes.proofs.Wording.{begins-with}
 
 isRefused : ColorRead → Bool
@@ -70,22 +72,6 @@ apart =
 pub record Coloured {Colour : Type 0} (colour : Colour → List ℕ) (channels : Colour → Color) : Type 0 where
   pub read : (c : Colour) → parseColorText (colour c) ≡ C.Value (channels c) (place (length (colour c)))
   pub tight : (c : Colour) → Tight (colour c)
-
--- how the document's paints are named by the reader; a link is the place and the length of its name in the text, which starts at `at`
-unfoldable pub fallbackOf : {Colour : Type 0} → (Colour → Color) → S.Fallback Colour → PaintFallback
-fallbackOf channels S.absent = F.Absent
-fallbackOf channels (S.no-paint l) = F.None
-fallbackOf channels (S.current l) = F.CurrentColor
-fallbackOf channels (S.coloured l c) = F.Color (channels c)
-
-unfoldable pub paintOf : {Colour : Type 0} → (Colour → Color) → ℕ → S.Paint Colour → Paint
-paintOf channels at S.none = P.None
-paintOf channels at S.inherit = P.Inherit
-paintOf channels at S.current-color = P.CurrentColor
-paintOf channels at S.context-fill = P.ContextFill
-paintOf channels at S.context-stroke = P.ContextStroke
-paintOf channels at (S.plain c) = P.Color (channels c)
-paintOf channels at (S.linked u f) = P.FuncIRI (linkAt (place (at + length (opening u))) (length (name u))) (fallbackOf channels f)
 
 module _ {Colour : Type 0} {colour : Colour → List ℕ} {channels : Colour → Color} (k : Coloured colour channels) where
   no-text : (c : Colour) (w : List ℕ) → isRefused (parseColorText w) ≡ true → colour c ≡ w → ⊥
@@ -163,16 +149,6 @@ module _ (u : Url) (c : Closes u) where
   unfolding parsePaint urlText opening same startsWith
   url-judged rest = refl
 
--- a link in a paint ends as the reader wants it
-abbrev pub PaintCloses : {Colour : Type 0} → S.Paint Colour → Type 0
-PaintCloses S.none = T true
-PaintCloses S.inherit = T true
-PaintCloses S.current-color = T true
-PaintCloses S.context-fill = T true
-PaintCloses S.context-stroke = T true
-PaintCloses (S.plain c) = T true
-PaintCloses (S.linked u f) = Closes u
-
 word-tight : (w : List ℕ) → ltb 0 (length w) ≡ true → Ascii w → blank1 (getD w 0 0) ≡ false → blank1 (getD w (length w - 1) 0) ≡ false → Tight w
 word-tight w s a f l = record { some = ltb-true 0 (length w) s; in-ascii = a; first = f; last = l }
 
@@ -195,18 +171,18 @@ module _ {Colour : Type 0} {colour : Colour → List ℕ} {channels : Colour →
   paint-parsed (S.plain d) c = plain-read k d
   paint-parsed (S.linked u f) c = url-judged u c (fallbackText colour f) ∙ linked-read u c f
 
-  paint-tight : (t : S.Paint Colour) → Tight (paintText colour t)
+  pub paint-clean : (t : S.Paint Colour) → Clean (paintText colour t)
   unfolding paintText fallbackText blank1
-  paint-tight S.none = word-tight _ refl refl refl refl
-  paint-tight S.inherit = word-tight _ refl refl refl refl
-  paint-tight S.current-color = word-tight _ refl refl refl refl
-  paint-tight S.context-fill = word-tight _ refl refl refl refl
-  paint-tight S.context-stroke = word-tight _ refl refl refl refl
-  paint-tight (S.plain c) = k .tight c
-  paint-tight (S.linked u S.absent) = rw append-nil (url-tight u)
-  paint-tight (S.linked u (S.no-paint l)) = tight-around (blanks l) (url-tight u) (blanks-ascii l) (word-tight (ascii "none") refl refl refl refl)
-  paint-tight (S.linked u (S.current l)) = tight-around (blanks l) (url-tight u) (blanks-ascii l) (word-tight (ascii "currentColor") refl refl refl refl)
-  paint-tight (S.linked u (S.coloured l c)) = tight-around (blanks l) (url-tight u) (blanks-ascii l) (k .tight c)
+  paint-clean S.none = tight-clean _ (word-tight _ refl refl refl refl)
+  paint-clean S.inherit = tight-clean _ (word-tight _ refl refl refl refl)
+  paint-clean S.current-color = tight-clean _ (word-tight _ refl refl refl refl)
+  paint-clean S.context-fill = tight-clean _ (word-tight _ refl refl refl refl)
+  paint-clean S.context-stroke = tight-clean _ (word-tight _ refl refl refl refl)
+  paint-clean (S.plain c) = tight-clean _ (k .tight c)
+  paint-clean (S.linked u S.absent) = rw append-nil (url-clean u)
+  paint-clean (S.linked u (S.no-paint l)) = clean-around (url-clean u) (blanks-written l) (tight-clean (ascii "none") (word-tight _ refl refl refl refl))
+  paint-clean (S.linked u (S.current l)) = clean-around (url-clean u) (blanks-written l) (tight-clean (ascii "currentColor") (word-tight _ refl refl refl refl))
+  paint-clean (S.linked u (S.coloured l c)) = clean-around (url-clean u) (blanks-written l) (tight-clean _ (k .tight c))
 
   paint-moved : (n : ℕ) (t : S.Paint Colour) → movePaint n (paintOf channels 0 t) ≡ paintOf channels n t
   unfolding movePaint paintOf
@@ -227,9 +203,9 @@ module _ {Colour : Type 0} {colour : Colour → List ℕ} {channels : Colour →
   paint-read before after t c h =
       let x = paintText colour t in
       let s = blanks before ++ (x ++ blanks after) in
-      let w : Tight x = paint-tight t in
-      let e : Ascii s = ascii-append (blanks before) (x ++ blanks after) (blanks-ascii before) (ascii-append x (blanks after) (w .in-ascii) (blanks-ascii after)) in
-      simp (ascii-admitted s e h, trim-is before x after w, paint-parsed t c, start-is before x after w) (ap A.Value (paint-moved (length before) t))
+      let w : Clean x = paint-clean t in
+      let e : Written s = written-append (blanks-written before) (written-append (clean-written w) (blanks-written after)) in
+      simp (written-admitted s e h, trim-is before x after w, paint-parsed t c, start-is before x after w) (ap A.Value (paint-moved (length before) t))
 
   -- the part that a link is told by holds the bytes of its name
   pub link-bytes : (before after : List Blank) (u : Url) (f : S.Fallback Colour)

@@ -29,6 +29,7 @@ use Rattle.standards.specs.CssColor3Names.{keywords}
 use Rattle.standards.specs.CssColor4 as X
 use Rattle.standards.specs.CssColor4.{HexColor, hexText}
 use Rattle.standards.specs.Colors.{line, Colour, hex, keyword, transparent, function, colour}
+use Rattle.standards.specs.Answers.{colorOf}
 use Rattle.standards.proofs.Numbers.{numbers-read}
 use Rattle.standards.proofs.Runs.{every, every-map, blanks-end, Ascii, ascii-append, blanks-ascii, number-ascii}
 use Rattle.standards.proofs.Tight.{Tight, tight-around}
@@ -41,9 +42,9 @@ use Rattle.standards.proofs.Marked.{closes-word}
 use Rattle.standards.proofs.Paints as P
 use Rattle.standards.proofs.Shadows as S
 
--- The channels of a colour: those of the hex digits, those of the table with alpha 255, all 0 for `transparent`, and those of the functional notations
+-- the channels that are read: those of the hex digits, those of the table with alpha 255, all 0 for `transparent`, and those of the functional notations
 abbrev pub channels : Colour → Color
-channels (hex t) = H.colour (X.channels t)
+channels (hex t) = colorOf (X.channels t)
 channels (keyword k h w) = rgba (line k .red) (line k .green) (line k .blue) 255
 channels (transparent w) = rgba 0 0 0 0
 channels (function t d) = F.colour t

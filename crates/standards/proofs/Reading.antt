@@ -1,28 +1,18 @@
 -- What the theorems of numbers say, for the grammars that are built on them.
 use Prim.Native.Nat.{ℕ, _+_}
-use mathlib.Core.Bool.{false, _||_, _&&_, not}
 use mathlib.Core.List.{List, [], _∷_, _++_}
 use mathlib.Core.Path.{_≡_, refl, ap, _∙_}
-use lib.Dec.{eqb}
-use lib.Ieee.{binary64, div}
-use lib.ListN.{length, getD}
-use Rattle.bytes.specs.Bytes.{isDigit, within}
+use lib.ListN.{length}
+use Rattle.bytes.specs.Bytes.{within}
 use Rattle.bytes.specs.Moves.{place}
 use Rattle.numbers.specs.Moves.{moveNumberRead}
 use Rattle.numbers.specs.Number.{parseNumber, parseNumberOrPercent}
-use Rattle.numbers.specs.Powers.{hundred}
 use Rattle.numbers.specs.declared.NumberRead.the-variants as N
 use Rattle.numbers.proofs.Shifts.{number-shift, percent-shift}
-use Rattle.standards.specs.Ieee754.{double}
-use Rattle.standards.specs.CssValues3.{Blank, space, tab, line-feed, return, blank, blanks, Number, number, exactly, isInteger}
+use Rattle.standards.specs.CssValues3.{Blank, space, tab, line-feed, return, blank, blanks, Number, number, isInteger}
 use Rattle.standards.specs.Domain.{InDomain}
+use Rattle.standards.specs.Answers.{Ends, numberOf, portion}
 use Rattle.standards.proofs.Cursors.{At, at-read}
-
--- What may follow a number: no digit, no dot, no e or E (101, 69), but that of `em` and `ex` (109, 120)
-pub record Ends (rest : List ℕ) : Type 0 where
-  pub digit : isDigit (getD rest 0 0) ≡ false
-  pub dot : eqb (getD rest 0 0) 46 ≡ false
-  pub letter : ((eqb (getD rest 0 0) 101 || eqb (getD rest 0 0) 69) && not (eqb (getD rest 1 0) 109 || eqb (getD rest 1 0) 120)) ≡ false
 
 -- Common followers of a number
 pub ends-none : Ends []
@@ -53,22 +43,22 @@ pub record NumbersRead : Type 0 where
   -- a number, after white space: the double nearest to what is written
   pub number-front : (l : List Blank) (t : Number) (rest : List ℕ) → InDomain t → Ends rest
       → parseNumber (blanks l ++ (number t ++ rest)) 0
-      ≡ N.Value (record { value = double (exactly t); whole = isInteger t; end = place (length l + length (number t)) }) (place (length l + length (number t)))
+      ≡ N.Value (numberOf t (length l + length (number t))) (place (length l + length (number t)))
   -- a percentage (37 is `%`): that, divided by 100 and rounded again
   pub percent-front : (l : List Blank) (t : Number) (rest : List ℕ) → InDomain t
       → parseNumberOrPercent (blanks l ++ (number t ++ (37 ∷ rest))) 0
-      ≡ N.Value (record { value = div binary64 (double (exactly t)) hundred; whole = isInteger t; end = place (length l + length (number t)) })
+      ≡ N.Value (record { value = portion t; whole = isInteger t; end = place (length l + length (number t)) })
       (place (length l + length (number t) + 1))
 
 -- both at a place of a text
 module _ (r : NumbersRead) {s : List ℕ} {i : ℕ} (l : List Blank) (t : Number) (rest : List ℕ) (d : InDomain t) where
   pub number-there : Ends rest → At s i (blanks l ++ (number t ++ rest))
       → parseNumber s i
-      ≡ N.Value (record { value = double (exactly t); whole = isInteger t; end = place (i + (length l + length (number t))) }) (place (i + (length l + length (number t))))
+      ≡ N.Value (numberOf t (i + (length l + length (number t)))) (place (i + (length l + length (number t))))
   number-there e h = at-read parseNumber moveNumberRead (λ a b j. number-shift a b j) h ∙ ap (moveNumberRead i) (r .number-front l t rest d e)
 
   pub percent-there : At s i (blanks l ++ (number t ++ (37 ∷ rest)))
       → parseNumberOrPercent s i
-      ≡ N.Value (record { value = div binary64 (double (exactly t)) hundred; whole = isInteger t; end = place (i + (length l + length (number t))) })
+      ≡ N.Value (record { value = portion t; whole = isInteger t; end = place (i + (length l + length (number t))) })
       (place (i + (length l + length (number t) + 1)))
   percent-there h = at-read parseNumberOrPercent moveNumberRead (λ a b j. percent-shift a b j) h ∙ ap (moveNumberRead i) (r .percent-front l t rest d)

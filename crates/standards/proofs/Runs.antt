@@ -152,17 +152,26 @@ number-ascii n =
 pub record First (x : ℕ) : Type 0 where
   pub low : 43 ≤ x
   pub high : x < 58
+  pub no-comma : x ≡ 44 → ⊥
 
 pub number-first : (t : Number) (b : List ℕ) → First (getD (number t ++ b) 0 0)
 unfolding number sign digits numeral
 number-first t b = go (t .signed) (t .digits-of) (exponent (t .exponent-of))
   where
     digit-first : (d : Digit) → First (48 + d .is)
-    digit-first d = record { low = omega arith; high = omega (arith, d .small) }
+    digit-first d = record { low = omega arith; high = omega (arith, d .small); no-comma = λ e. omega arith }
 
     go : (g : Sign) (d : Digits) (x : List ℕ) → First (getD ((sign g ++ (digits d ++ x)) ++ b) 0 0)
-    go plus d x = record { low = lit≤ tt; high = lit≤ tt }
-    go minus d x = record { low = lit≤ tt; high = lit≤ tt }
+    go plus d x = record { low = lit≤ tt; high = lit≤ tt; no-comma = λ e. omega arith }
+    go minus d x = record { low = lit≤ tt; high = lit≤ tt; no-comma = λ e. omega arith }
     go unsigned (whole d ds) x = digit-first d
-    go unsigned (dotted [] f fs) x = record { low = lit≤ tt; high = lit≤ tt }
+    go unsigned (dotted [] f fs) x = record { low = lit≤ tt; high = lit≤ tt; no-comma = λ e. omega arith }
     go unsigned (dotted (d ∷ ds) f fs) x = digit-first d
+
+-- so it has one
+pub number-some : (t : Number) → 0 < length (number t)
+number-some t = go (number t) (number-first t [])
+  where
+    go : (x : List ℕ) → First (getD (x ++ []) 0 0) → 0 < length x
+    go [] f = absurd (omega (arith, f .low))
+    go (y ∷ ys) f = omega arith

@@ -40,13 +40,14 @@ use Rattle.filter_functions.specs.declared.FilterValue.{FilterValue}
 use Rattle.filter_functions.specs.declared.ShadowColor.{ShadowColor}
 use Rattle.filter_functions.specs.declared.ShadowColor.the-variants as O
 use Rattle.standards.specs.CssValues3.{Blank, blanks, isMinus, number, isInteger}
-use Rattle.standards.specs.Domain.{InDomain}
+use Rattle.standards.specs.Domain.{InDomain, OffsetsTaken, ShadowTaken}
 use Rattle.standards.specs.FilterEffects1 as E
 use Rattle.standards.specs.FilterEffects1.{CssLength, cssLength, Measure, measure, Offsets, two, three, offsets, gap}
+use Rattle.standards.specs.Answers.{unitMarked, measureOf, shadowColor}
 use Rattle.standards.proofs.Reading.{NumbersRead}
 use Rattle.standards.proofs.Cursors.{At, at-step, at-blanks, at-read, at-spaces, at-other, at-still, at-drop, at-get, at-more, starts-joined, no-word, differs}
 use Rattle.standards.proofs.Runs.{run-every, Ascii, First}
-use Rattle.standards.proofs.Marked.{Closes, gapped, closes-after, closes-word, unitMarked, lengthOf, nought-is, positive, first-space, length-at, length-first, no-percent}
+use Rattle.standards.proofs.Marked.{Closes, gapped, closes-after, closes-word, nought-is, positive, first-space, length-at, length-first, no-percent}
 
 -- What `parseNext`, `tryParseColor` and others answer has no name outside their crate: that it is the value v with the place j is that one goes on with these, whatever one does
 abbrev pub Gives : ((B : Type 0) → (Fault → B) → (FilterValue → Place → B) → B) → FilterValue → ℕ → Type 1
@@ -73,20 +74,6 @@ pub record Coloured {Colour : Type 0} (colour : Colour → List ℕ) (channels :
   pub front : (t : Colour) (rest : List ℕ) → Closes rest → parseColor (colour t ++ rest) 0 ≡ C.Value (channels t) (place (length (colour t)))
   pub begins : (t : Colour) (rest : List ℕ) → Begins (getD (colour t ++ rest) 0 0)
   pub plain : (t : Colour) → Ascii (colour t)
-
--- What document 01 takes of the grammar: its numbers' domain
-abbrev pub OffsetsTaken : Offsets → Type 0
-OffsetsTaken (two dx b l dy) = InDomain (dx .size) × InDomain (dy .size)
-OffsetsTaken (three dx b l dy c m d p) = InDomain (dx .size) × InDomain (dy .size) × InDomain (d .size)
-
-abbrev pub ShadowTaken : {Colour : Type 0} → E.Shadow Colour → Type 0
-ShadowTaken (E.bare o) = OffsetsTaken o
-ShadowTaken (E.colour-first c b l o) = OffsetsTaken o
-ShadowTaken (E.colour-last o b l c) = OffsetsTaken o
-
-unfoldable pub shadowColor : {Colour : Type 0} → (Colour → Color) → E.Tint Colour → ShadowColor
-shadowColor channels E.current = O.None
-shadowColor channels (E.tint c) = O.Some (channels c)
 
 -- what no colour starts with: no space, no `#`, no letter
 record Low (b : List ℕ) : Type 0 where
@@ -203,13 +190,13 @@ lengths-are s i i1 i2 i3 i4 i5 dx dy d m n a b c e f B out k = simp (a, b, c, e,
 
 module _ (r : NumbersRead) {s : List ℕ} where
   deviation-at : {i : ℕ} (d : CssLength) (l : List Blank) {b : List ℕ} → isMinus (d .size .signed) ≡ false → InDomain (d .size) → Closes (blanks l ++ b) → Stops b
-      → At s i (cssLength d ++ (blanks l ++ b)) → Deviates s i (lengthOf (measure d)) (i + length (cssLength d) + length l)
+      → At s i (cssLength d ++ (blanks l ++ b)) → Deviates s i (measureOf (measure d)) (i + length (cssLength d) + length l)
   unfolding parseDeviation measure bind
   deviation-at d l {b} p w c t h B out k =
       simp (length-at r d w c h, positive (d .size) p, no-percent, at-spaces l b (t .unspaced) (at-step (cssLength d) (blanks l ++ b) h))
 
   offset-at : {i : ℕ} (l : CssLength) {b : List ℕ} → InDomain (l .size) → Closes b → At s i (cssLength l ++ b)
-      → parseFilterLength s 0 i ≡ L.Value (lengthOf (measure l)) (record { value = measure l .size; whole = isInteger (l .size); end = place (i + length (number (l .size))) }) (place (i + length (cssLength l)))
+      → parseFilterLength s 0 i ≡ L.Value (measureOf (measure l)) (record { value = measure l .size; whole = isInteger (l .size); end = place (i + length (number (l .size))) }) (place (i + length (cssLength l)))
   unfolding parseFilterLength measure
   offset-at l w c h = simp (length-at r l w c h, no-percent)
 
@@ -228,7 +215,7 @@ dyOf (three dx b l dy c m d p) = dy
 
 module _ (r : NumbersRead) {s : List ℕ} {i : ℕ} where
   offsets-at : (o : Offsets) (l : List Blank) {b : List ℕ} → OffsetsTaken o → Closes (blanks l ++ b) → Stops b → At s i (offsets o ++ (blanks l ++ b))
-      → Measured s i (lengthOf (measure (dxOf o))) (lengthOf (measure (dyOf o))) (lengthOf (deviationOf o)) (i + length (offsets o) + length l)
+      → Measured s i (measureOf (measure (dxOf o))) (measureOf (measure (dyOf o))) (measureOf (deviationOf o)) (i + length (offsets o) + length l)
   unfolding offsets unitMarked
   offsets-at (two dx c g dy) l {b} w e t h =
       let x = cssLength dx in
@@ -296,7 +283,7 @@ passedWith (E.colour-first c b l o) m = m
 passedWith (E.colour-last o b l c) m = []
 
 abbrev pub shadowOf : {Colour : Type 0} → (Colour → Color) → E.Shadow Colour → FilterValue
-shadowOf channels d = let o = offsetsOf d in shadow (shadowColor channels (tintOf d)) (lengthOf (measure (dxOf o))) (lengthOf (measure (dyOf o))) (lengthOf (deviationOf o))
+shadowOf channels d = let o = offsetsOf d in shadow (shadowColor channels (tintOf d)) (measureOf (measure (dxOf o))) (measureOf (measure (dyOf o))) (measureOf (deviationOf o))
 
 module _ (r : NumbersRead) {Colour : Type 0} {colour : Colour → List ℕ} {channels : Colour → Color} (coloured : Coloured colour channels) {s : List ℕ} {i : ℕ} where
   pub shadow-at : (d : E.Shadow Colour) (m : List Blank) (rest : List ℕ) → ShadowTaken d → At s i (E.shadowText colour d ++ (blanks m ++ (41 ∷ rest)))

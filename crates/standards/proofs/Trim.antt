@@ -14,7 +14,7 @@ use Rattle.utf8.specs.Blanks.{blank1, blank2, blank3, blankLen, blankEnd, blank
 use Rattle.bytes.proofs.Ranges.{allFrom, across, lt-or-le, and-false, and-first, and-second}
 use Rattle.utf8.proofs.Trimming.{blank-drop, Fronting, front-start, front-end, front-stop, front-go, Backing, back-start, back-end, back-stop, back-go}
 use Rattle.standards.specs.Rfc3629.{Octet, Tail, Char, utf8-1, utf8-2, utf8-3-e0, utf8-3-e1, utf8-3-ed, utf8-3-ee, utf8-4-f0, utf8-4-f1, utf8-4-f4, octets, text, two, three, four, scalar}
-use Rattle.standards.specs.Unicode.{isWhite}
+use Rattle.standards.specs.Unicode.{isWhite, white, endsWhite}
 use Rattle.standards.proofs.Utf8.{octets-some}
 
 abbrev alike : Bool → Bool → Bool
@@ -153,10 +153,6 @@ end-of l n (shape3 a b c w) s t =
 end-of l n (shape4 a b c d w) s t =
     simp (before-in s l t, blank1-none (d .is) (d .from), blank2-none (c .is) (d .is) (λ e. omega arith), blank3-none (b .is) (c .is) (d .is) (λ x y. omega arith), white-high n (omega arith))
 
--- a character of White_Space
-abbrev pub white : Char → Bool
-white c = isWhite (scalar c)
-
 unfoldable pub allWhite : List Char → Bool
 allWhite [] = true
 allWhite (c ∷ cs) = white c && allWhite cs
@@ -164,11 +160,6 @@ allWhite (c ∷ cs) = white c && allWhite cs
 unfoldable pub beginsWhite : List Char → Bool
 beginsWhite [] = false
 beginsWhite (c ∷ cs) = white c
-
-unfoldable pub endsWhite : List Char → Bool
-endsWhite [] = false
-endsWhite (c ∷ []) = white c
-endsWhite (c ∷ d ∷ cs) = endsWhite (d ∷ cs)
 
 pub text-append : (a b : List Char) → text (a ++ b) ≡ text a ++ text b
 unfolding text
@@ -203,7 +194,7 @@ pub trim-start-is : (before rest : List Char) → allWhite before ≡ true → b
 trim-start-is before rest w b = omega (arith, started [] before rest w b (front-start (text (before ++ rest))))
 
 -- trimming from the end comes to the end of pre, where all after it is white,
-ended : (pre : List ℕ) (cs : List Char) → allWhite cs ≡ true → Backing (pre ++ text cs) (length pre)
+pub ended : (pre : List ℕ) (cs : List Char) → allWhite cs ≡ true → Backing (pre ++ text cs) (length pre)
 unfolding text allWhite
 ended pre [] w = rw append-nil (back-start pre)
 ended pre (c ∷ cs) w =

@@ -11,34 +11,15 @@ use Rattle.bytes.specs.Bytes.{within, isLower}
 use Rattle.bytes.specs.Moves.{place}
 use Rattle.bytes.specs.Words.{startsWith}
 use Rattle.length.specs.Lengths.{unitAt, unitRest, unitWidth}
-use Rattle.length.specs.declared.LengthUnit as L
 use Rattle.length.specs.declared.LengthUnit.the-variants as U
 use Rattle.angle.specs.Angles.{parseUnit}
-use Rattle.angle.specs.declared.AngleUnit as A
-use Rattle.angle.specs.declared.AngleUnit.the-variants as W
 use Rattle.angle.specs.declared.AngleUnitRead.the-variants as F
 use Rattle.filter_functions.specs.Values.{isPercent}
 use Rattle.standards.specs.CssValues3.{LengthUnit, em, ex, px, inch, cm, mm, pt, pc, lengthUnit, AngleUnit, deg, grad, rad, turn, angleUnit}
+use Rattle.standards.specs.Answers.{Ends, Stops, unitNamed, angleNamed}
 use Rattle.standards.proofs.Runs.{Ascii}
 use Rattle.standards.proofs.Cursors.{no-word}
-use Rattle.standards.proofs.Reading.{Ends, ends-none}
-
--- the readers' names
-unfoldable pub unitNamed : LengthUnit → L.LengthUnit
-unitNamed em = U.Em
-unitNamed ex = U.Ex
-unitNamed px = U.Px
-unitNamed inch = U.In
-unitNamed cm = U.Cm
-unitNamed mm = U.Mm
-unitNamed pt = U.Pt
-unitNamed pc = U.Pc
-
-unfoldable pub angleNamed : AngleUnit → A.AngleUnit
-angleNamed deg = W.Degrees
-angleNamed grad = W.Gradians
-angleNamed rad = W.Radians
-angleNamed turn = W.Turns
+use Rattle.standards.proofs.Reading.{ends-none}
 
 -- a unit may follow a number
 pub unit-ends : (u : LengthUnit) (rest : List ℕ) → Ends (lengthUnit u ++ rest)
@@ -118,12 +99,6 @@ angle-unit-ascii deg = refl
 angle-unit-ascii grad = refl
 angle-unit-ascii rad = refl
 angle-unit-ascii turn = refl
-
--- What may follow a number with no unit: nothing that goes on with the number, no small letter, which would begin a unit, and no `%` (37)
-pub record Stops (rest : List ℕ) : Type 0 where
-  pub ends : Ends rest
-  pub letter : isLower (getD rest 0 0) ≡ false
-  pub mark : eqb (getD rest 0 0) 37 ≡ false
 
 -- the end of the text may
 pub stops-end : Stops []

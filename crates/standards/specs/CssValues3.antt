@@ -1,8 +1,7 @@
--- CSS Values and Units Module Level 3: integers, numbers, percentages and units as they are written, what number they are, white space, and the characters of links. From memory of the Candidate Recommendation of September 2016; it knows nothing of the readers.
-use Prim.Native.Nat.{ℕ, suc, _+_, _*_, _^_, _≤_, _<_}
+-- CSS Values and Units Module Level 3: integers, numbers, percentages and units as they are written, what number they are, and white space. From memory of the Candidate Recommendation of September 2016; it knows nothing of the readers.
+use Prim.Native.Nat.{ℕ, suc, _+_, _*_, _^_, _<_}
 use mathlib.Core.Bool.{Bool, true, false, _&&_, cond}
 use mathlib.Core.List.{List, [], _∷_, _++_, map}
-use mathlib.Core.Path.{_≡_}
 use lib.ListN.{length}
 use Rattle.standards.specs.Written.{ascii}
 use Rattle.standards.specs.Ieee754.{Fraction}
@@ -165,20 +164,3 @@ angleUnit deg = ascii "deg"
 angleUnit grad = ascii "grad"
 angleUnit rad = ascii "rad"
 angleUnit turn = ascii "turn"
-
--- CSS Syntax 3, <url-token>: no white space, no `"`, `'`, `(`, `)` or `\` (34, 39, 40, 41, 92), and "non-printable" characters are errors; here also no escapes, and ASCII alone
-pub record UrlByte : Type 0 where
-  pub is : ℕ
-  pub low : 33 ≤ is
-  pub high : is ≤ 126
-  pub no-double-quote : is ≡ 34 → ⊥
-  pub no-quote : is ≡ 39 → ⊥
-  pub no-bracket : is ≡ 40 → ⊥
-  pub no-closing : is ≡ 41 → ⊥
-  pub no-escape : is ≡ 92 → ⊥
-
-unfoldable pub urlByte : UrlByte → ℕ
-urlByte b = b .is
-
-abbrev pub urlBytes : List UrlByte → List ℕ
-urlBytes l = map urlByte l

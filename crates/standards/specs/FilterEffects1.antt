@@ -9,7 +9,8 @@ use lib.Ieee.{Float, binary64, div}
 use Rattle.standards.specs.Written.{ascii}
 use Rattle.standards.specs.Ieee754.{double}
 use Rattle.standards.specs.CssValues3 as Css
-use Rattle.standards.specs.CssValues3.{Blank, blanks, isMinus, joined, Number, number, exactly, LengthUnit, lengthUnit, AngleUnit, deg, angleUnit, UrlByte, urlBytes}
+use Rattle.standards.specs.CssValues3.{Blank, blanks, isMinus, joined, Number, number, exactly, LengthUnit, lengthUnit, AngleUnit, deg, angleUnit}
+use Rattle.standards.specs.CssSyntax3.{UrlCharacter, written}
 
 -- CSS Values 3, <length>: "a number immediately followed by a unit identifier", or with none
 pub data LengthMark : Type 0 where
@@ -131,7 +132,7 @@ module _ (Colour : Type 0) where
     hue-rotate-default : Content
     hue-rotate : CssAngle → Content
     drop-shadow : Shadow → Content
-    url : UrlByte → List UrlByte → Content
+    url : UrlCharacter → List UrlCharacter → Content
 
   -- <filter-function> or <url>, with the white space inside its brackets
   pub record FilterFunction : Type 0 where
@@ -198,7 +199,7 @@ module _ {Colour : Type 0} (colour : Colour → List ℕ) where
   argument hue-rotate-default = []
   argument (hue-rotate a) = cssAngle a
   argument (drop-shadow d) = shadowText d
-  argument (url c l) = 35 ∷ urlBytes (c ∷ l)
+  argument (url c l) = 35 ∷ written (c ∷ l)
 
   -- the brackets are 40 and 41
   unfoldable pub functionText : FilterFunction Colour → List ℕ
@@ -213,6 +214,10 @@ module _ {Colour : Type 0} (colour : Colour → List ℕ) where
 
   unfoldable pub listText : FilterValueList Colour → List ℕ
   listText l = blanks (l .leading) ++ itemsText (l .first ∷ l .others)
+
+-- section 5, the property: "none | <filter-value-list>"; the first of these, with white space about it
+unfoldable pub noneText : (before after : List Blank) → List ℕ
+noneText before after = blanks before ++ (ascii "none" ++ blanks after)
 
 -- and what it says. Left out, the seven functions' number is 1, and a blur's and a deviation's length and an angle are 0
 module _ {Colour : Type 0} where
@@ -233,7 +238,7 @@ module _ {Colour : Type 0} where
   effect hue-rotate-default = hue-rotated (record { size = nought; mark = deg })
   effect (hue-rotate a) = hue-rotated (turned a)
   effect (drop-shadow d) = shadowEffect d
-  effect (url c l) = referenced (urlBytes (c ∷ l))
+  effect (url c l) = referenced (written (c ∷ l))
 
   abbrev pub meaning : FilterFunction Colour → Effect Colour
   meaning t = effect (t .content)

@@ -1,11 +1,11 @@
 -- IEEE 754-2008 and -2019: the numbers of a format, rounding to the nearest, and the operations. From memory of both editions; it knows nothing of the readers.
 -- `Float` is the logic's: `fin s m e` is m * 2 ^ e, negative where s is true, and 2 ^ e is the fraction up e / down e. Everything here is over whole numbers.
 use Prim.Native.Nat.{ℕ, suc, _+_, _-_, _*_, _%_, _^_, _≤_, _<_}
-use mathlib.Core.Bool.{Bool, not, _&&_, Bool·beq, cond}
+use mathlib.Core.Bool.{Bool, true, false, not, _&&_, Bool·beq, cond}
 use mathlib.Core.Logic.{_⊎_}
 use mathlib.Core.Path.{_≡_}
 use lib.Dec.{ltb}
-use lib.IntN.{ℤ}
+use lib.IntN.{ℤ, pos, negsuc}
 use lib.Ieee.{Float, nan, inf, fin, Format, binary32, binary64, up, down, round}
 
 -- an exact number: over / under, with a sign
@@ -109,3 +109,70 @@ difference a b = sum a (negated b)
 -- Not of IEEE 754: C's fmod, Rust's `%`. "x − ny, for some integer n such that .. the result has the same sign as x and magnitude less than the magnitude of y"
 abbrev pub leftover : Fraction → Fraction → Fraction
 leftover a b = record { minus = a .minus; over = a .over * b .under % (b .over * a .under); under = a .under * b .under }
+
+-- Section 5.4.1, convertFromInt: the integer, which is then rounded. "Integer zeros without signs are converted to +0"
+abbrev pub integral : ℤ → Fraction
+integral (pos n) = record { minus = false; over = n; under = 1 }
+integral (negsuc n) = record { minus = true; over = suc n; under = 1 }
+
+-- Section 5.12.2, from decimal character sequences: "correctly rounded". A sign, the digits M and an exponent stand for ±M × 10^q; here q is `by`, or −`by` where it falls
+abbrev pub decimal : Bool → ℕ → Bool → ℕ → Fraction
+decimal minus m falls by = record { minus = minus; over = cond falls m (m * 10 ^ by); under = cond falls (10 ^ by) 1 }
+
+-- Section 5.11: "Four mutually exclusive relations are possible: less than, equal, greater than, and unordered"; "Comparisons shall ignore the sign of zero (so +0 = −0)".
+-- Of finite operands they are those of the exact numbers: ±over / under is (gain − loss) / under, and both sides are brought to one denominator, with nothing taken away.
+abbrev pub gain : Fraction → ℕ
+gain a = cond (a .minus) 0 (a .over)
+
+abbrev pub loss : Fraction → ℕ
+loss a = cond (a .minus) (a .over) 0
+
+abbrev pub Less : Fraction → Fraction → Type 0
+Less a b = gain a * b .under + loss b * a .under < gain b * a .under + loss a * b .under
+
+abbrev pub Same : Fraction → Fraction → Type 0
+Same a b = gain a * b .under + loss b * a .under ≡ gain b * a .under + loss a * b .under
+
+-- "Every NaN shall compare unordered with everything, including itself"; section 6.1: "−∞ < {every finite number} < +∞"
+abbrev pub LessThan : Float → Float → Type 0
+LessThan nan y = ⊥
+LessThan (inf s) nan = ⊥
+LessThan (inf s) (inf t) = (s ≡ true) × (t ≡ false)
+LessThan (inf s) (fin t n d) = s ≡ true
+LessThan (fin s m e) nan = ⊥
+LessThan (fin s m e) (inf t) = t ≡ false
+LessThan (fin s m e) (fin t n d) = Less (exact s m e) (exact t n d)
+
+-- "Infinite operands of the same sign shall compare equal"
+abbrev pub EqualTo : Float → Float → Type 0
+EqualTo nan y = ⊥
+EqualTo (inf s) nan = ⊥
+EqualTo (inf s) (inf t) = s ≡ t
+EqualTo (inf s) (fin t n d) = ⊥
+EqualTo (fin s m e) nan = ⊥
+EqualTo (fin s m e) (inf t) = ⊥
+EqualTo (fin s m e) (fin t n d) = Same (exact s m e) (exact t n d)
+
+-- section 5.6.1, compareQuietLessEqual and its signalling like: "less than or equal"
+abbrev pub AtMost : Float → Float → Type 0
+AtMost x y = LessThan x y ⊎ EqualTo x y
+
+-- a predicate's answer: true exactly where the statement holds
+abbrev pub Tells : Bool → Type 0 → Type 0
+Tells b P = (b ≡ true → P) × (P → b ≡ true)
+
+-- Section 3.4: an encoding is of k bits (table 3.5: "storage width in bits"), of which the first is the sign S
+abbrev pub width : Format → ℕ
+width binary32 = 32
+width binary64 = 64
+
+abbrev pub signBit : Format → ℕ
+signBit f = 2 ^ (width f - 1)
+
+-- section 5.5.1: negate(x) "copies a floating-point operand x to a destination in the same format, reversing the sign bit"
+abbrev pub reversed : Format → ℕ → ℕ
+reversed f b = (b + signBit f) % 2 ^ width f
+
+-- section 5.7.2: isSignMinus(x) is true "if and only if x has negative sign", zeros included
+abbrev pub Minus : Format → ℕ → Type 0
+Minus f b = signBit f ≤ b

@@ -1,13 +1,15 @@
 -- SVG 2: lengths, angles and paints as they are written, with the units of CSS Values and Units Module Level 3. From memory of SVG 2, Candidate Recommendation of October 2018, and CSS Values 3, Candidate Recommendation of September 2016; it knows nothing of the readers.
 -- CSS ignores the letter case of keywords; the trees have that of the documents alone, since document 01 takes no other.
 use Prim.Native.Nat.{ℕ, _*_, _^_}
-use mathlib.Core.Bool.{false}
+use mathlib.Core.Bool.{Bool, false}
 use mathlib.Core.List.{List, [], _∷_, _++_}
 use lib.Ieee.{Float, binary64, mul, div}
 use Rattle.standards.specs.Written.{ascii}
-use Rattle.standards.specs.Ieee754.{Fraction, double}
+use Rattle.standards.specs.Ieee754.{Fraction, product, double}
 use Rattle.standards.specs.CssValues3 as Css
-use Rattle.standards.specs.CssValues3.{Number, number, Blank, blanks, deg, grad, rad, turn, UrlByte, urlBytes}
+use Rattle.standards.specs.CssValues3.{Number, number, Blank, blanks, deg, grad, rad, turn}
+use Rattle.standards.specs.CssSyntax3.{Of, characters, isUrl, isString}
+use Rattle.standards.specs.Rfc3629.{Char, text}
 
 -- Section 8.9: a length has a unit of CSS Values 3, or is a percentage; a number with no unit is in user units
 pub data LengthUnit : Type 0 where
@@ -47,7 +49,14 @@ angleText t = number (t .number-of) ++ angleUnit (t .unit-of)
 abbrev pub ratio : ℕ → ℕ → Fraction
 ratio over under = record { minus = false; over = over; under = under }
 
--- "There are 360 degrees in a full circle", "400 gradians", "2π radians", "1 turn". A radian is 180 / π degrees, which lies between these two by π's first 21 digits
+-- "There are 360 degrees in a full circle", "400 gradians", "2π radians", "1 turn". The degrees of q turns and of q gradians, exactly:
+abbrev pub turnsExactly : Fraction → Fraction
+turnsExactly q = product q (ratio 360 1)
+
+abbrev pub gradiansExactly : Fraction → Fraction
+gradiansExactly q = product q (ratio 360 400)
+
+-- A radian is 180 / π degrees, which lies between these two by π's first 21 digits
 abbrev pub radianBelow : Fraction
 radianBelow = ratio (180 * 10 ^ 20) 314159265358979323847
 
@@ -73,16 +82,25 @@ quote bare = []
 quote single = 39 ∷ []
 quote twofold = 34 ∷ []
 
--- a link to an element of the same document: `#` (35) and its name, of one byte or more
+-- which characters may stand between them
+unfoldable pub between : Quotes → ℕ → Bool
+between bare = isUrl
+between single = isString 39
+between twofold = isString 34
+
+-- a link to an element of the same document: `#` (35) and its name, of one character or more
 pub record Url : Type 0 where
   pub quotes : Quotes
   pub before : List Blank
-  pub first : UrlByte
-  pub others : List UrlByte
+  pub first : Of (between quotes)
+  pub others : List (Of (between quotes))
   pub after : List Blank
 
+abbrev pub nameCharacters : Url → List Char
+nameCharacters u = characters (u .first ∷ u .others)
+
 abbrev pub name : Url → List ℕ
-name u = urlBytes (u .first ∷ u .others)
+name u = text (nameCharacters u)
 
 -- what stands before the name
 unfoldable pub opening : Url → List ℕ
