@@ -213,7 +213,8 @@ uint64_t homeludaf_paint_packed(const uint8_t *text, size_t length, struct homel
 
 /* Many steps of a list at once, with one test of the text: the answers of the single steps, each from the list place of the one before it, up to and with the
  * first whose state is not HOMELUDAF_STATE_VALUE, as many as fit. `entries` counts the numbers lent, HOMELUDAF_ENTRIES for each answer; those behind the last
- * answer stay as they were. `answers` is not null even where `entries` is 0, and `told` lies outside it. */
+ * answer stay as they were. `answers` is not null even where `entries` is 0, and `told` lies outside it.
+ * Of filter values, room for length / 6 + 1 answers always reaches the end of the text, or its refusal: 683 answers at 4,096 bytes. */
 void homeludaf_length_all(const uint8_t *text, size_t length, size_t place, struct homeludaf_answer *answers, size_t entries, struct homeludaf_told *told);
 void homeludaf_filter_all(const uint8_t *text, size_t length, size_t place, struct homeludaf_answer *answers, size_t entries, struct homeludaf_told *told);
 

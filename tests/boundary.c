@@ -572,6 +572,33 @@ static void many_steps(void)
             }
 }
 
+/* A text of 4,096 bytes with as many values as fit: 682, and a rest of four bytes, by which the list ends in one way or another. */
+static void most_values(void)
+{
+    enum { VALUES = 4096 / 6, ROOM = VALUES + 1 };
+    static const struct { const char *rest; uint64_t state; } ends[] = {
+        { "    ", HOMELUDAF_STATE_END }, { "none", HOMELUDAF_STATE_NONE }, { "blur", HOMELUDAF_STATE_REFUSED },
+    };
+    static struct homeludaf_answer got[ROOM + 1], lent;
+    static char text[4096];
+    struct homeludaf_told told;
+    memset(&lent, 0xa5, sizeof lent);
+    for (size_t i = 0; i < VALUES; i++)
+        memcpy(text + 6 * i, "blur()", 6);
+    for (size_t i = 0; i < COUNT(ends); i++) {
+        memcpy(text + 6 * VALUES, ends[i].rest, 4);
+        memset(got, 0xa5, sizeof got);
+        homeludaf_filter_all((const uint8_t *)text, sizeof text, 0, got, ROOM * HOMELUDAF_ENTRIES, &told);
+        expect("most values", told.count == 683 && told.list_place == sizeof text && got[ROOM - 1].state == ends[i].state);
+        for (size_t k = 0; k < VALUES; k++)
+            expect("most values, one of them", got[k].state == HOMELUDAF_STATE_VALUE && got[k].result.filter.kind == HOMELUDAF_FILTER_BLUR);
+        expect("most values, behind them", memcmp(&got[ROOM], &lent, sizeof lent) == 0);
+    }
+    memset(got, 0xa5, sizeof got);
+    homeludaf_filter_all((const uint8_t *)text, sizeof text, 0, got, VALUES * HOMELUDAF_ENTRIES, &told);
+    expect("most values, room for one less", told.count == VALUES && got[VALUES - 1].state == HOMELUDAF_STATE_VALUE);
+}
+
 int main(void)
 {
     whole_colors();
@@ -588,6 +615,7 @@ int main(void)
     length_steps();
     filter_steps();
     many_steps();
+    most_values();
     printf(failed ? "not as expected\n" : "all as expected\n");
     return failed;
 }

@@ -9,7 +9,7 @@ use borrow.Author.Tests.{eq-eqb, ne-eqb}
 use lib.Dec.{eqb}
 use lib.ListN.{length, take, drop, getD, length-append}
 use lib.Seq.{paste, take-at, drop-append-add, drop-drop, take-all}
-use Rattle.exports.specs.Many.{upTo, fitting, flat, filled, lastPlace, toldOf}
+use Rattle.records.specs.Many.{upTo, fitting, flat, filled, lastPlace, toldOf}
 use Rattle.records.proofs.Stores.{record-same, record-get}
 
 -- one record more

@@ -8,7 +8,7 @@ use lib.ListN.{length, getD}
 use lib.Seq.{drop-length}
 use Rattle.filter_functions.specs.Filters.{nextFilter}
 use Rattle.length.specs.Lengths.{nextLength}
-use Rattle.exports.specs.Many.{upTo, fitting, flat, filled, filterAt, lengthAt}
+use Rattle.records.specs.Many.{upTo, fitting, flat, filled, filterAt, lengthAt}
 use Rattle.records.proofs.Stores.{length-entries, filter-entries}
 
 no-room : (b : Bool) → flat (cond b [] []) ≡ []

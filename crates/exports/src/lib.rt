@@ -1,7 +1,7 @@
 // The C boundary: every outside call. A text is lent as (pointer, length); the answer is written into a record of 24 numbers.
 ghost use mathlib.Core.Path.{_≡_};
 ghost use lib.ListN.{length};
-ghost use Rattle.exports.specs.Many.{fitting, filled, toldOf, filterAt, lengthAt};
+ghost use Rattle.records.specs.Many.{fitting, filled, toldOf, filterAt, lengthAt};
 ghost use Rattle.records.specs.Records.{colorRecord, lengthRecord, lengthStepRecord, angleRecord, linkRecord, paintRecord, inheritedRecord, filterRecord, recordFor};
 ghost use Rattle.counts.specs.Counts.{setBackRecord};
 ghost use Rattle.packed.specs.Numbers.{colorAnswerNumber, paintAnswerNumber};

@@ -1,6 +1,6 @@
 // Many steps of a list at once: each from the list place of the one before it. The text is admitted once.
 ghost use mathlib.Core.Path.{_≡_};
-ghost use Rattle.exports.specs.Many.{fitting, filled, toldOf, filterAt, lengthAt};
+ghost use Rattle.records.specs.Many.{fitting, filled, toldOf, filterAt, lengthAt};
 use bytes::Place;
 
 pub fn filter_steps(text: &[u8], place: Place, answers: &mut [u64], told: &mut [u64; 2])

@@ -5,14 +5,14 @@ use mathlib.Core.List.{List, [], _∷_, _++_}
 use mathlib.Core.Logic.{_⊎_, inl, inr, ⊎-elim}
 use mathlib.Core.Path.{_≡_, refl, sym, ap, _∙_}
 use native.Mathlib.Omega.{arith}
-use borrow.Author.Tests.{eqb-true, eq-eqb, ne-eqb, le-leb}
+use borrow.Author.Tests.{eqb-true, eqb-false, eq-eqb, ne-eqb, le-leb, leb-false}
 use lib.Dec.{leb}
 use lib.ListN.{length, getD, length-append, List·getD-append, List·getD-eq-default}
 use Rattle.bytes.specs.Bytes.{within, isSpace, isTail}
 use Rattle.utf8.specs.Characters.{utf8Of, characters, firsts, onCharacter}
 use Rattle.bytes.specs.Moves.{place}
 use Rattle.bytes.specs.Flow.{bind}
-use Rattle.stream.specs.Refusals.{refusalOf, bareRefusal, admitUtf8, admitText, admitPlace, thenAdmitted}
+use Rattle.stream.specs.Refusals.{numberOf, refusalOf, bareRefusal, admitUtf8, admitText, admitPlace, thenAdmitted}
 use Rattle.bytes.specs.Scan.{scan}
 use Rattle.stream.specs.declared.Admission.{Admission}
 use Rattle.stream.specs.declared.Admission.the-variants as A
@@ -23,7 +23,7 @@ use Rattle.utf8.specs.declared.Utf8.the-variants.{WellFormed, IllFormed}
 use Rattle.bytes.proofs.Ahead.{scan-again, scan-kept}
 use Rattle.utf8.proofs.Counting.{on-byte, on-end, on-shift}
 use Rattle.utf8.proofs.Cuts.{after-ascii, scan-on}
-use Rattle.stream.proofs.Edges.{admit-good, admitted-small, admitted-utf8, on-last, refusal-shift}
+use Rattle.stream.proofs.Edges.{admit-good, admitted-small, admitted-utf8, on-last, past-three, refusal-shift}
 use Rattle.bytes.proofs.Ranges.{le-or-lt}
 use Rattle.bytes.proofs.Scans.{scan-start, scan-end, scan-le, scan-shift}
 use Rattle.utf8.proofs.Walks.{utf8-join}
@@ -34,6 +34,7 @@ use Rattle.filter_functions.specs.declared.FilterValue.{FilterValue}
 use Rattle.filter_functions.specs.declared.StepRead.{StepRead}
 use Rattle.filter_functions.specs.declared.StepRead.the-variants as S
 use Rattle.joins.specs.Joins.{moveStep, passing}
+use Rattle.joins.proofs.Eights.{Steps, step-other}
 use Rattle.joins.proofs.Laws.{Closed, StepLaws}
 use Rattle.bytes.proofs.Wording.{space-ascii}
 
@@ -87,7 +88,7 @@ on-inside {s} {i} h =
     (λ (l : i < length s). omega arith)
     (le-or-lt (length s) i)
 
-on-start : (s : List ℕ) → onCharacter s 0 ≡ true
+pub on-start : (s : List ℕ) → onCharacter s 0 ≡ true
 unfolding onCharacter firsts
 on-start [] = refl
 on-start (x ∷ xs) = simp (ne-eqb 0 (length (x ∷ xs)) (λ e. omega arith))
@@ -187,7 +188,7 @@ module _ (laws : StepLaws) where
     next-inside = laws .inside s i v p (value-parsed s i v p e)
 
     -- the list place that comes with a value is admitted again
-    next-on : Admits s (p .0)
+    pub next-on : Admits s (p .0)
     next-on =
         let h : Admits s i = value-admits s i v p e in
         let c : Closed s p = laws .after s i v p (value-parsed s i v p e) in
@@ -243,6 +244,24 @@ end-place s (S.Refused f) p e =
     let x = refusalOf s f in
     let q = place (length s) in
     absurd (⊎-elim (λ (f : O.Refused x q ≡ O.End p). let z : _≡_ {A = ℕ} 0 1 = cc in omega arith) (λ (f : O.Refused x q ≡ O.NoneWord p). let z : _≡_ {A = ℕ} 0 1 = cc in omega arith) e)
+
+-- the end that a step answers is that of its text
+pub next-end : (s : List ℕ) (i : ℕ) (p : Place) → nextFilter s i ≡ O.End p → p ≡ place (length s)
+next-end s i p e = end-place s (parseStep s i) p (inl (sym (next-edged (end-admits s i p e)) ∙ e))
+
+-- of a text and a place that are admitted, a refusal is of what is read: by 4 or more, and not by 8
+pub next-number : {s : List ℕ} {i : ℕ} → Admits s i → (r : Refusal) (p : Place) → nextFilter s i ≡ O.Refused r p → (4 ≤ r .number) × (r .number ≡ 8 → ⊥)
+unfolding refusalOf
+next-number {s} {i} h r p e = go (parseStep s i) (step-other s i) (sym (next-edged h) ∙ e)
+  where
+    go : (x : StepRead) → Steps x → edged s x ≡ O.Refused r p → (4 ≤ r .number) × (r .number ≡ 8 → ⊥)
+    go (S.Value v q) o f = let z : _≡_ {A = ℕ} 0 1 = cc in absurd (omega arith)
+    go S.End o f = let z : _≡_ {A = ℕ} 0 1 = cc in absurd (omega arith)
+    go S.NoneWord o f = let z : _≡_ {A = ℕ} 0 1 = cc in absurd (omega arith)
+    go (S.Refused g) o f =
+        let n = numberOf (g .trouble) in
+        let q : n ≡ r .number = cc in
+        (omega (arith, leb-false n 3 (past-three (g .trouble))), λ t. omega (arith, eqb-false n 8 o))
 
 -- the end of a text that may be read is a list's end
 at-the-end : {s : List ℕ} {i : ℕ} → Admits s i → nextFilter s (length s) ≡ O.End (place (length s))

@@ -1,6 +1,8 @@
 pub mod Laws
+pub mod Eights
 pub mod Edge
 pub mod Lists
+pub mod Last
 pub mod Values
 pub mod Whole
 pub mod Worked

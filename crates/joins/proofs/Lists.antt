@@ -106,16 +106,17 @@ module _ (laws : StepLaws) where
 
 -- the join
 
-no-end : (l : List FilterStep) (p : Place) → _≡_ {A = List FilterStep} [] (l ++ (O.End p ∷ [])) → ⊥
-no-end [] p e = let z : _≡_ {A = ℕ} 0 1 = cc in omega arith
-no-end (y ∷ l) p e = let z : _≡_ {A = ℕ} 0 1 = cc in omega arith
+no-more : (l m : List FilterStep) (z : FilterStep) → _≡_ {A = List FilterStep} [] (l ++ (z ∷ m)) → ⊥
+no-more [] m z e = let z : _≡_ {A = ℕ} 0 1 = cc in omega arith
+no-more (y ∷ l) m z e = let z : _≡_ {A = ℕ} 0 1 = cc in omega arith
 
-last-end : (x : FilterStep) (g : ℕ → List FilterStep) (p : Place) → follow x g ≡ O.End p ∷ [] → x ≡ O.End p
+-- the first answer
+pub first-answer : (x : FilterStep) (g : ℕ → List FilterStep) (z : FilterStep) (m : List FilterStep) → follow x g ≡ z ∷ m → x ≡ z
 unfolding follow
-last-end (O.Value v q) g p e = cc
-last-end (O.End q) g p e = cc
-last-end (O.NoneWord q) g p e = cc
-last-end (O.Refused r q) g p e = cc
+first-answer (O.Value v q) g z m e = cc
+first-answer (O.End q) g z m e = cc
+first-answer (O.NoneWord q) g z m e = cc
+first-answer (O.Refused r q) g z m e = cc
 
 -- an answer that another follows is a value, and what follows is read from its list place
 pub record Went (x y : FilterStep) (g : ℕ → List FilterStep) (l : List FilterStep) : Type 0 where
@@ -125,12 +126,12 @@ pub record Went (x y : FilterStep) (g : ℕ → List FilterStep) (l : List Filte
   pub same : y ≡ O.Value value place
   pub rest : g (place .0) ≡ l
 
-went : (x y : FilterStep) (g : ℕ → List FilterStep) (l : List FilterStep) (p : Place) → follow x g ≡ y ∷ (l ++ (O.End p ∷ [])) → Went x y g (l ++ (O.End p ∷ []))
+pub went : (x y : FilterStep) (g : ℕ → List FilterStep) (l m : List FilterStep) (z : FilterStep) → follow x g ≡ y ∷ (l ++ (z ∷ m)) → Went x y g (l ++ (z ∷ m))
 unfolding follow
-went (O.Value v q) y g l p e = record { value = v; place = q; here = refl; same = cc; rest = cc }
-went (O.End q) y g l p e = absurd (no-end l p (cc))
-went (O.NoneWord q) y g l p e = absurd (no-end l p (cc))
-went (O.Refused r q) y g l p e = absurd (no-end l p (cc))
+went (O.Value v q) y g l m z e = record { value = v; place = q; here = refl; same = cc; rest = cc }
+went (O.End q) y g l m z e = absurd (no-more l m z (cc))
+went (O.NoneWord q) y g l m z e = absurd (no-more l m z (cc))
+went (O.Refused r q) y g l m z e = absurd (no-more l m z (cc))
 
 -- what A and then B are to answer, where A's are m and then its end
 abbrev both : List ℕ → List ℕ → List FilterStep → List FilterStep
@@ -166,11 +167,11 @@ module _ (laws : StepLaws) (a b : List ℕ) (u : utf8Of a ≡ WellFormed) (w : u
   joined : (m : List FilterStep) (i : ℕ) (p : Place) → answers nextFilter a i ≡ m ++ (O.End p ∷ [])
       → answers nextFilter (a ++ b) i ≡ both a b m
   joined [] i p e =
-      let f : nextFilter a i ≡ O.End p = last-end (nextFilter a i) (answers nextFilter a) p (sym (answers-step laws a i) ∙ e) in
+      let f : nextFilter a i ≡ O.End p = first-answer (nextFilter a i) (answers nextFilter a) (O.End p) [] (sym (answers-step laws a i) ∙ e) in
       let g : answers nextFilter (a ++ b) i ≡ answers nextFilter (a ++ b) (length a + 0) =
       rw (answers-step laws (a ++ b) i, answers-step laws (a ++ b) (length a + 0), next-seam laws a b u w l i p f) in
       g ∙ shifted (length b) 0 (omega arith)
-  joined (y ∷ m) i p e = go (went (nextFilter a i) y (answers nextFilter a) m p (sym (answers-step laws a i) ∙ e)) (λ j. joined m j p)
+  joined (y ∷ m) i p e = go (went (nextFilter a i) y (answers nextFilter a) m [] (O.End p) (sym (answers-step laws a i) ∙ e)) (λ j. joined m j p)
     where
       go : Went (nextFilter a i) y (answers nextFilter a) (m ++ (O.End p ∷ []))
           → ((j : ℕ) → answers nextFilter a j ≡ m ++ (O.End p ∷ []) → answers nextFilter (a ++ b) j ≡ both a b m)
@@ -212,8 +213,8 @@ records-passing : (next : Next) (n k j : ℕ) (s : List ℕ) (i : ℕ) (l : List
     → map paperStep (map (passing n k) l) ≡ map (passRecord n k) (map paperStep l)
 unfolding from
 records-passing next n k j s i [] p e = refl
-records-passing next n k zero s i (y ∷ l) p e = absurd (no-end l p (cc))
-records-passing next n k (suc j) s i (y ∷ l) p e = go (went (next s i) y (λ m. from next j s m) l p e) (λ m. records-passing next n k j s m l p)
+records-passing next n k zero s i (y ∷ l) p e = absurd (no-more l [] (O.End p) (cc))
+records-passing next n k (suc j) s i (y ∷ l) p e = go (went (next s i) y (λ m. from next j s m) l [] (O.End p) e) (λ m. records-passing next n k j s m l p)
   where
     go : Went (next s i) y (λ m. from next j s m) (l ++ (O.End p ∷ [])) → ((m : ℕ) → from next j s m ≡ l ++ (O.End p ∷ []) → map paperStep (map (passing n k) l) ≡ map (passRecord n k) (map paperStep l))
         → paperStep (passing n k y) ∷ map paperStep (map (passing n k) l) ≡ passRecord n k (paperStep y) ∷ map (passRecord n k) (map paperStep l)

@@ -10,6 +10,7 @@ use Rattle.joins.specs.Joins.{Next, follow, from, answers, Join, listPla
 use Rattle.joins.proofs.Laws.{StepLaws}
 use Rattle.joins.proofs.Values.{join-values, join-unspaced}
 use Rattle.joins.proofs.Lists.{reaches, ends-for-good, join, join-records, bound, at-its-end}
+use Rattle.joins.proofs.Last.{ends-at-length, places-below, no-two-nor-eight, join-last}
 
 module _ (returned : Next) (same : (s : List ℕ) (i : ℕ) → returned s i ≡ nextFilter s i) where
   same-from : (k : ℕ) (s : List ℕ) (i : ℕ) → from returned k s i ≡ from nextFilter k s i
@@ -42,6 +43,10 @@ module _ (returned : Next) (same : (s : List ℕ) (i : ℕ) → returned s i ≡
         joins-records = join-records returned (same-joins (join laws));
         joins-values = join-values returned (same-joins (join laws));
         joins-unspaced = join-unspaced returned (same-joins (join laws));
+        joins-last = λ a b l x p u w m e. rw (same-answers (a ++ b) 0, same-answers b 0) (join-last laws a b l x p u w m (sym (same-answers a 0) ∙ e));
+        ends-at-length = λ s i l p e. ends-at-length laws s i l p (sym (same-answers s i) ∙ e);
+        places-below = λ s i l m v w p q e. places-below laws s i l m v w p q (sym (same-answers s i) ∙ e);
+        no-two-nor-eight = λ s l m e p u n f. no-two-nor-eight laws s l m e p u n (sym (same-answers s 0) ∙ f);
         bounded = λ s i. rw (same-answers s i) (bound laws s i);
         reaches = λ s i. rw (same-answers s i) (reaches laws s i);
         ends = λ s i k r p e l. rw (same-further k s (p .0)) (at-its-end s i k r p (sym (same s i) ∙ e) l);

@@ -4,7 +4,7 @@
 -- The statements are of any step `next`; proofs/Proved.antt has them of `nextFilter`, which is all that filter_functions::next answers.
 -- Left out: which values a list has, which is for `nextFilter` to say (a step that ends at once at the end of the text would meet `Join`); lists that end by `none` (`none`
 -- followed by anything but spaces is 5) or with a refusal (what follows is not looked at).
-use Prim.Native.Nat.{ℕ, zero, suc, _+_, _≤_, _/_}
+use Prim.Native.Nat.{ℕ, zero, suc, _+_, _≤_, _<_, _/_}
 use mathlib.Core.Bool.{cond}
 use mathlib.Core.List.{List, [], _∷_, _++_, map}
 use mathlib.Core.Logic.{_⊎_}
@@ -54,7 +54,7 @@ values (O.NoneWord p ∷ l) = values l
 values (O.Refused e p ∷ l) = values l
 
 -- "moved": an answer whose text follows n bytes of k characters. Links' places, list places and stretches move by the bytes, listed positions
--- by the characters
+-- by the characters. `moveRefusal` leaves the place of a 2, and moves the part of an 8: neither comes (`NoTwoNorEight`)
 unfoldable pub moveStep : ℕ → ℕ → FilterStep → FilterStep
 moveStep n k (O.Value v p) = O.Value (moveFilterValue n v) (movePlace n p)
 moveStep n k (O.End p) = O.End (movePlace n p)
@@ -93,6 +93,29 @@ abbrev pub JoinUnspaced : Next → Type 0
 JoinUnspaced next =
     (a b : List ℕ) (l : List FilterStep) (p : Place) → utf8Of a ≡ WellFormed → utf8Of b ≡ WellFormed → length (a ++ b) ≤ 4096 → answers next a 0 ≡ l ++ (O.End p ∷ [])
     → scan isSpace b 0 ≡ 0 → answers next (a ++ b) 0 ≡ l ++ map (moveStep (length a) (characters a)) (answers next b 0)
+
+-- The end of a list lies after its last byte: the p of `Join` is the length of A
+abbrev pub EndsAtLength : Next → Type 0
+EndsAtLength next = (s : List ℕ) (i : ℕ) (l : List FilterStep) (p : Place) → answers next s i ≡ l ++ (O.End p ∷ []) → p ≡ place (length s)
+
+-- The list place of every value but the last lies before the end of its text
+abbrev pub PlacesBelow : Next → Type 0
+PlacesBelow next =
+    (s : List ℕ) (i : ℕ) (l m : List FilterStep) (v w : FilterValue) (p q : Place) → answers next s i ≡ l ++ (O.Value v p ∷ O.Value w q ∷ m) → p .0 < length s
+
+-- so that of A's answers the last alone, x, passes B's spaces: those before it, l, are unchanged whole
+abbrev pub JoinLast : Next → Type 0
+JoinLast next =
+    (a b : List ℕ) (l : List FilterStep) (x : FilterStep) (p : Place) → utf8Of a ≡ WellFormed → utf8Of b ≡ WellFormed → length (a ++ b) ≤ 4096
+    → answers next a 0 ≡ l ++ (x ∷ O.End p ∷ [])
+    → answers next (a ++ b) 0 ≡ l ++ (passing (length a) (scan isSpace b 0) x ∷ map (moveStep (length a) (characters a)) (answers next b 0))
+
+-- No answer of a list that is UTF-8 and within the limit, read from its start, is a refusal by 1 to 3, which judge a text and a place before
+-- anything is read, nor by 8, which links as such are refused by. So under the premises of `Join` there is no place of a 2 and no part of an 8
+abbrev pub NoTwoNorEight : Next → Type 0
+NoTwoNorEight next =
+    (s : List ℕ) (l m : List FilterStep) (e : Refusal) (p : Place) → utf8Of s ≡ WellFormed → length s ≤ 4096 → answers next s 0 ≡ l ++ (O.Refused e p ∷ m)
+    → (4 ≤ e .number) × (e .number ≡ 8 → ⊥)
 
 -- The same of document 01's records: `records` is all that a list answers as such
 abbrev pub records : Next → List ℕ → ℕ → List PaperStep
@@ -164,6 +187,10 @@ pub record Demand3 (next : Next) : Type 0 where
   pub joins-records : JoinRecords next
   pub joins-values : JoinValues next
   pub joins-unspaced : JoinUnspaced next
+  pub joins-last : JoinLast next
+  pub ends-at-length : EndsAtLength next
+  pub places-below : PlacesBelow next
+  pub no-two-nor-eight : NoTwoNorEight next
   pub bounded : Bound next
   pub reaches : Reaches next
   pub ends : AtItsEnd next

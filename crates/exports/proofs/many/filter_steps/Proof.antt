@@ -1,7 +1,7 @@
 use Prim.Native.Nat.{_-_, _*_}
 use Rattle.records.proofs.Stores.{filter-entries}
 use Rattle.exports.proofs.Going.{Going, going-start, going-full, going-same, going-on, going-stop}
-use Rattle.exports.specs.Many.{filterAt}
+use Rattle.records.specs.Many.{filterAt}
 use Rattle.filter_functions.specs.Filters.{nextFilter}
 use borrow.Author.Needs.{needs}
 use Rattle.exports.proofs.many.filter_steps.Statement.{statement}

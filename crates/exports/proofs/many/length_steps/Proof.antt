@@ -1,7 +1,7 @@
 use Prim.Native.Nat.{_-_, _*_}
 use Rattle.records.proofs.Stores.{length-entries}
 use Rattle.exports.proofs.Going.{Going, going-start, going-full, going-same, going-on, going-stop}
-use Rattle.exports.specs.Many.{lengthAt}
+use Rattle.records.specs.Many.{lengthAt}
 use Rattle.length.specs.Lengths.{nextLength}
 use borrow.Author.Needs.{needs}
 use Rattle.exports.proofs.many.length_steps.Statement.{statement}
