@@ -1,13 +1,16 @@
 -- The laws of a scan. Whoever proves a loop cites them and never opens the definition.
-use Prim.Native.Nat.{ℕ, suc, _+_, _-_, _≤_, _<_}
-use mathlib.Core.Bool.{Bool, true, false, cond}
+use Prim.Native.Nat.{ℕ, zero, suc, _+_, _-_, _≤_, _<_}
+use mathlib.Core.Bool.{Bool, true, false, cond, _&&_}
 use mathlib.Core.List.{List, [], _∷_, _++_}
-use mathlib.Core.Path.{_≡_, refl, sym}
+use mathlib.Core.Path.{_≡_, refl, sym, _∙_}
 use native.Mathlib.Numerals.{add-one}
 use native.Mathlib.Omega.{arith}
+use borrow.Author.Tests.{le-leb, lt-leb}
+use lib.Dec.{leb}
 use lib.ListN.{length, getD, drop, length-drop, drop-of-length-le}
-use lib.Seq.{drop-cons, drop-append-add, getD-drop}
+use lib.Seq.{drop-cons, drop-drop, drop-append-add, getD-drop}
 use Rattle.bytes.specs.Scan.{run, scan}
+use Rattle.bytes.proofs.Ranges.{and-true, either}
 
 -- The invariant of every scanning loop: from i on the scan comes to what it comes to from `at` on.
 pub record Scanning (p : ℕ → Bool) (s : List ℕ) (at i : ℕ) : Type 0 where
@@ -114,3 +117,40 @@ run-wider p q w (x ∷ xs) = go (p x) refl (run-wider p q w xs)
     go : (t : Bool) → p x ≡ t → run p xs ≤ run q xs → cond t (suc (run p xs)) 0 ≤ cond (q x) (suc (run q xs)) 0
     go true e h = simp (w x e) (omega arith)
     go false e h = omega arith
+
+run-along : (p : ℕ → Bool) (l : List ℕ) (k : ℕ) → k ≤ run p l → k + run p (drop k l) ≡ run p l
+unfolding run
+run-along p l zero h = omega arith
+run-along p [] (suc k) h = absurd (omega arith)
+run-along p (x ∷ xs) (suc k) h = go (p x) h (run-along p xs k)
+  where
+    go : (t : Bool) → suc k ≤ cond t (suc (run p xs)) 0 → (k ≤ run p xs → k + run p (drop k xs) ≡ run p xs) → suc k + run p (drop k xs) ≡ cond t (suc (run p xs)) 0
+    go true h ih = omega (arith, ih (omega arith))
+    go false h ih = absurd (omega arith)
+
+-- from a place inside a run, or from its end, a scan comes to the same
+pub scan-along : (p : ℕ → Bool) (s : List ℕ) (i j : ℕ) → i ≤ j → j ≤ scan p s i → scan p s j ≡ scan p s i
+unfolding scan
+scan-along p s i j h l =
+    let k : i + (j - i) ≡ j = omega arith in
+    let d : drop (j - i) (drop i s) ≡ drop j s = drop-drop (j - i) i s ∙ rw k in
+    let e : j - i + run p (drop j s) ≡ run p (drop i s) = rw (← d) (run-along p (drop i s) (j - i) (omega arith)) in
+    omega arith
+
+-- whether the run that starts at i reaches e, by the test of one byte after another
+module _ (p : ℕ → Bool) (s : List ℕ) (e : ℕ) where
+  pub reach-go : (i j : ℕ) (t u : Bool) → t ≡ p (getD s i 0) → i < length s → i < e → j ≡ i + 1 → u ≡ leb e (scan p s j) → (t && u) ≡ leb e (scan p s i)
+  reach-go i j t u q h l k w =
+      either t
+      (λ b.
+      let g : scan p s (i + 1) ≡ scan p s i = scan-go (scan-start p s i) q b h .same in
+      simp (b, w, k, g))
+      (λ b.
+      let g : i ≡ scan p s i = scan-stop (scan-start p s i) q b h in
+      let f : leb e (scan p s i) ≡ false = lt-leb e (scan p s i) (omega arith) in
+      simp (b, f))
+
+  pub reach-last : (i : ℕ) (t : Bool) → t ≡ p (getD s i 0) → i < length s → e ≡ i + 1 → t ≡ leb e (scan p s i)
+  reach-last i t q h k =
+      sym (and-true t)
+      ∙ reach-go i (i + 1) t true q h (omega arith) refl (sym (le-leb e (scan p s (i + 1)) (omega (arith, scan-ge p s (i + 1)))))

@@ -50,7 +50,3 @@ isUrlByte b = not (eqb b 32) && not (eqb b 41)
 -- a byte of a quoted link: any but its quote
 abbrev pub isOther : ℕ → ℕ → Bool
 isOther quote b = not (eqb b quote)
-
--- 42 to 127: ASCII, and no space, quote or bracket nor a part of white space
-abbrev pub isBareByte : ℕ → Bool
-isBareByte b = within 42 127 b

@@ -1,2 +1,3 @@
 pub mod Going
 pub mod Single
+pub mod Packed

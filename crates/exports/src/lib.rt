@@ -18,6 +18,7 @@ ghost use Rattle.set_back.specs.Answers.{hexAnswer, keywordOf, keywordAnswer};
 ghost use Rattle.set_back.specs.Texts.{hexText};
 use bytes::Place;
 use color::Color;
+use paint::PaintAnswer;
 
 mod many;
 
@@ -75,20 +76,25 @@ pub extern "C" fn homeludaf_func_iri(text: &[u8], answer: &mut [u64; 24])
     records::write_link(answer, fast_funciri::func_iri_from_str(text));
 }
 
+// The value's number, taken apart: so the reader has one caller, and is compiled into it.
 #[no_mangle]
 pub extern "C" fn homeludaf_paint(text: &[u8], answer: &mut [u64; 24])
     ensures { λ _. ⌜ now (answer .exit) ≡ paintRecord (paints.fromStr (now (text .entry))) ⌝ }
 {
-    records::write_paint(answer, fast_paint::from_str(text));
+    let n = homeludaf_paint_packed(text, answer);
+    if n == 0 {
+        return;
+    }
+    records::write_paint(answer, PaintAnswer::Value(packed::number_paint(n)));
 }
 
-// A paint as one number, likewise.
+// A paint as one number, likewise. The slice is taken anew: handed on whole it would be copied through memory.
 #[no_mangle]
 pub extern "C" fn homeludaf_paint_packed(text: &[u8], answer: &mut [u64; 24]) -> u64
     ensures { λ r. ⌜ r ≡ paintAnswerNumber (paints.fromStr (now (text .entry))) ⌝ }
     ensures { λ r. ⌜ now (answer .exit) ≡ recordFor r (paintRecord (paints.fromStr (now (text .entry)))) (now (answer .entry)) ⌝ }
 {
-    fast_paint::number(text, answer)
+    fast_paint::number(&text[0..], answer)
 }
 
 // The inherit rule, over an element's own text and its parent's.

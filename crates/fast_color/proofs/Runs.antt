@@ -4,7 +4,7 @@ use mathlib.Core.Bool.{Bool, true, false, _&&_}
 use mathlib.Core.List.{List}
 use mathlib.Core.Path.{_≡_, refl, sym, _∙_}
 use native.Mathlib.Omega.{arith}
-use borrow.Author.Tests.{ltb-true, leb-true, lt-ltb, le-ltb, le-leb, lt-leb}
+use borrow.Author.Tests.{ltb-true, leb-true, lt-ltb, le-ltb, le-leb}
 use lib.Dec.{leb, ltb}
 use lib.ListN.{length, getD}
 use mir.Syntax.{w8}
@@ -13,7 +13,7 @@ use Rattle.bytes.specs.Bytes.{isHexDigit}
 use Rattle.bytes.specs.Scan.{scan}
 use Rattle.bytes.proofs.Ahead.{scan-bytes}
 use Rattle.bytes.proofs.Ranges.{and-true, and-first, and-second, either}
-use Rattle.bytes.proofs.Scans.{scan-start, scan-go, scan-stop, scan-ge}
+use Rattle.bytes.proofs.Scans.{scan-ge, reach-go, reach-last}
 use Rattle.color.specs.Color.{rgba}
 use Rattle.color.specs.Hex.{fromHex, shortHex, hexPair, shortColor, longColor}
 use Rattle.packed.specs.Numbers.{noColor, colorNumber}
@@ -27,29 +27,22 @@ high-fits a h = omega arith
 pub pair-fits : (a b : ℕ) → a < 16 → b < 16 → Fits w8 (a * 16 + b)
 pair-fits a b h k = omega arith
 
+-- a digit's value tells that it is one
+digit-test : (b a : ℕ) → a ≡ hexDigit b → ltb a 16 ≡ isHexDigit b
+unfolding hexDigit
+digit-test b a q =
+    either (isHexDigit b)
+    (λ t. let v : a ≡ fromHex b = simp t at q in simp (t, lt-ltb a 16 (omega (arith, digit-low b))))
+    (λ t. let v : a ≡ 16 = simp t at q in simp (t, le-ltb a 16 (omega arith)))
+
 -- whether the run that starts at i reaches e, by the test of one digit after another
 module _ (s : List ℕ) (e : ℕ) where
   pub test-go : (i j a : ℕ) (u : Bool) → a ≡ hexDigit (getD s i 0) → i < length s → i < e → j ≡ i + 1 → u ≡ leb e (scan isHexDigit s j)
       → (ltb a 16 && u) ≡ leb e (scan isHexDigit s i)
-  unfolding hexDigit
-  test-go i j a u q h l k w =
-      either (isHexDigit (getD s i 0))
-      (λ t.
-      let v : a ≡ fromHex (getD s i 0) = simp t at q in
-      let b : ltb a 16 ≡ true = lt-ltb a 16 (omega (arith, digit-low (getD s i 0))) in
-      let g : scan isHexDigit s (i + 1) ≡ scan isHexDigit s i = scan-go {r = true} (scan-start isHexDigit s i) (sym t) refl h .same in
-      simp (b, w, k, g))
-      (λ t.
-      let v : a ≡ 16 = simp t at q in
-      let b : ltb a 16 ≡ false = le-ltb a 16 (omega arith) in
-      let g : i ≡ scan isHexDigit s i = scan-stop {r = false} (scan-start isHexDigit s i) (sym t) refl h in
-      let f : leb e (scan isHexDigit s i) ≡ false = lt-leb e (scan isHexDigit s i) (omega arith) in
-      simp (b, f))
+  test-go i j a u q = reach-go isHexDigit s e i j (ltb a 16) u (digit-test (getD s i 0) a q)
 
   pub test-last : (i a : ℕ) → a ≡ hexDigit (getD s i 0) → i < length s → e ≡ i + 1 → ltb a 16 ≡ leb e (scan isHexDigit s i)
-  test-last i a q h k =
-      sym (and-true (ltb a 16))
-      ∙ test-go i (i + 1) a true q h (omega arith) refl (sym (le-leb e (scan isHexDigit s (i + 1)) (omega (arith, scan-ge isHexDigit s (i + 1)))))
+  test-last i a q = reach-last isHexDigit s e i (ltb a 16) (digit-test (getD s i 0) a q)
 
   -- and then each has its value
   pub value-is : (i j a : ℕ) → e ≤ scan isHexDigit s i → i ≤ j → j < e → a ≡ hexDigit (getD s j 0) → fromHex (getD s j 0) ≡ a

@@ -11,7 +11,7 @@ use lib.Seq.{getD-take, length-take-le, take-length}
 use mir.Syntax.{w64}
 use mir.Val.{Fits}
 use Rattle.utf8.specs.Blanks.{trimEnd}
-use Rattle.bytes.specs.Bytes.{within, isSpace, isLinkByte, isUrlByte, isOther, isBareByte}
+use Rattle.bytes.specs.Bytes.{within, isSpace, isLinkByte, isUrlByte, isOther}
 use Rattle.bytes.specs.Moves.{place}
 use Rattle.stream.specs.Faults.{invalidValue}
 use Rattle.bytes.specs.Flow.{bind}
@@ -28,6 +28,7 @@ use Rattle.funciri.specs.Link.{isQuote, hasQuote, isLink, linkAt, closeLink, cl
 use Rattle.funciri.specs.declared.LinkRead.{LinkRead}
 use Rattle.funciri.specs.declared.LinkRead.the-variants as L
 use Rattle.funciri.proofs.Quotes.{link-whole}
+use Rattle.fast_funciri.specs.Bare.{isBareByte}
 
 -- a bare byte is a byte of every link, no quote, and plain
 module _ (b : ℕ) (e : isBareByte b ≡ true) where

@@ -8,7 +8,7 @@ use native.Mathlib.Omega.{arith}
 use borrow.Author.Tests.{eqb-true, leb-true, lt-ltb, le-ltb, lt-leb}
 use lib.Dec.{eqb, leb}
 use lib.ListN.{length, getD, drop, length-drop}
-use Rattle.bytes.specs.Bytes.{isSpace, isLinkByte, isUrlByte, isBareByte}
+use Rattle.bytes.specs.Bytes.{isSpace, isLinkByte, isUrlByte}
 use Rattle.bytes.specs.Moves.{place}
 use Rattle.stream.specs.Faults.{invalidValue, consumeByte, consumeString}
 use Rattle.bytes.specs.Flow.{bind}
@@ -22,12 +22,13 @@ use Rattle.bytes.proofs.Ranges.{and-first, and-second, lt-or-le, within-le}
 use Rattle.stream.proofs.Sames.{curr-consumed}
 use Rattle.bytes.proofs.Scans.{run-le, scan-start, scan-end, scan-here, run-wider}
 use Rattle.utf8.proofs.Walks.{ascii-utf8, ascii-all}
-use Rattle.bytes.proofs.Wording.{curr-inside, curr-byte, begins-with}
+use Rattle.bytes.proofs.Wording.{word-inside, curr-inside, curr-byte, begins-with}
 use Rattle.funciri.specs.Answers.{wholeLink, iriFromStr, funcIriFromStr}
 use Rattle.funciri.specs.Link.{isLink, linkAt, closeLink, plainLink, parseIri, parseFuncIri}
 use Rattle.funciri.specs.declared.LinkAnswer.the-variants as A
 use Rattle.funciri.specs.declared.LinkRead.{LinkRead}
 use Rattle.funciri.specs.declared.LinkRead.the-variants as L
+use Rattle.fast_funciri.specs.Bare.{isBareByte}
 use Rattle.fast_funciri.proofs.Bare.{bare-space, plain-quick}
 
 -- the bytes of a run are ASCII
@@ -48,6 +49,15 @@ unfolding wholeLink bind
 whole-link s a n e h =
     let g : scan isSpace s e ≡ e = sym (scan-end (scan-start isSpace s e) h) in
     simp (g, le-ltb e (length s) h)
+
+-- what was seen lies inside, so that a run may follow it: r is what its test answered
+pub hash-inside : (s : List ℕ) (t : Bool) {r : Bool} → r ≡ isCurrByteEq s 0 35 → (t && r) ≡ true → 1 ≤ length s
+hash-inside s t {r} q h = omega (arith, curr-inside s 0 35 q (and-second t r h))
+
+pub url-inside : (s : List ℕ) (t : Bool) {r : Bool} → r ≡ startsWith (ascii "url(#") s → (t && r) ≡ true → 5 ≤ length s
+url-inside s t {r} q h = word-inside 117 (ascii "rl(#") s 0 r (and-second t r h) q
+
+pub ruleset entered = (hash-inside, url-inside)
 
 -- `#` and a run: r is what the test of the byte answered
 module _ (s : List ℕ) (e : ℕ) {r : Bool} (h : r ≡ isCurrByteEq s 0 35) (k : (leb (length s) 4096 && r) ≡ true) (f : e ≡ scan isBareByte s 1) (iri-past : 1 < e) (iri-end : e ≡ length s) where

@@ -1,21 +1,19 @@
 -- A whole text: what is told of the part that trimming leaves is told of it.
 use Prim.Native.Nat.{ℕ, _+_, _-_, _≤_, _<_}
-use mathlib.Core.Bool.{Bool, true, _&&_}
 use mathlib.Core.List.{List}
-use mathlib.Core.Path.{_≡_, refl, sym, ap, _∙_}
+use mathlib.Core.Path.{_≡_, refl, ap}
 use native.Mathlib.Omega.{arith}
 use borrow.Author.Tests.{lt-leb}
-use lib.ListN.{length, getD, take, drop, length-drop, length-take}
+use lib.ListN.{length, take, drop, length-drop, length-take}
+use mir.Syntax.{w64}
+use mir.Val.{Fits}
 use Rattle.utf8.specs.Blanks.{trimStart, trimOf}
-use Rattle.bytes.specs.Bytes.{isSpace, within}
 use Rattle.bytes.specs.Flow.{bind}
 use Rattle.stream.specs.Refusals.{emptyRefusal, refusalOf, admitText, thenAdmitted}
 use Rattle.stream.specs.declared.Refusal.{Refusal}
-use Rattle.bytes.specs.Scan.{scan}
 use Rattle.stream.specs.declared.Admission.{Admission}
 use Rattle.stream.specs.declared.Admission.the-variants as M
 use Rattle.utf8.proofs.Cuts.{trim-utf8}
-use Rattle.bytes.proofs.Ranges.{and-first, and-second}
 use Rattle.bytes.proofs.Parts.{rest-part}
 use Rattle.stream.specs.declared.Fault.{Fault}
 use Rattle.stream.proofs.Edges.{admitted-small}
@@ -31,11 +29,12 @@ use Rattle.paint.specs.declared.PaintRead.{PaintRead}
 use Rattle.paint.specs.declared.PaintRead.the-variants as R
 use Rattle.packed.specs.Numbers.{noPaint, places, paintNumber, decodedPaint, stretchStart, refusalNumber, paintOr}
 use Rattle.packed.proofs.Decoding.{paint-told}
+use Rattle.fast_paint.specs.Inked.{Inked}
 use Rattle.fast_paint.specs.Told.{untold, orTold, faultNumber, readNumber, innerNumber}
 use Rattle.fast_color.proofs.Empty.{admit-low, admit-near, fault-empty}
 use Rattle.fast_paint.proofs.Admits.{admits-alike}
 use Rattle.fast_paint.proofs.Tells.{right, told-is, fault-number}
-use Rattle.fast_paint.proofs.Trims.{Ending, trimmed-is, trimmed-from, trimmed-utf8}
+use Rattle.fast_paint.proofs.Trims.{trimmed-is, trimmed-from, trimmed-utf8}
 
 -- the number of an answer, by the number of what is read
 answer-read : (s : List ℕ) → paintOr (fromStr s) ≡ thenAdmitted (λ e. noPaint + refusalNumber e) (admitText s) (readNumber (trimStart s) (trimOf s))
@@ -54,30 +53,37 @@ pub long-told : (s : List ℕ) → 4096 < length s → orTold (noPaint + places)
 unfolding admitText stretchStart
 long-told s h = right (noPaint + places) (paintOr (fromStr s)) (rw (answer-read s) (simp (lt-leb (length s) 4096 h)))
 
--- x and y are what the tests of the first and the last byte answered, r what is told of the part between
-pub part-told : (s : List ℕ) (a e r : ℕ) {x y : Bool} → a ≡ scan isSpace s 0 → a < e → e ≤ length s → scan isSpace s e ≡ length s → length s ≤ 4096
-    → x ≡ within 33 126 (getD s a 0) → y ≡ within 33 126 (getD s (e - 1) 0) → (x && y) ≡ true
-    → orTold r (innerNumber a (take (e - a) (drop a s))) ≡ innerNumber a (take (e - a) (drop a s))
-    → orTold r (paintOr (fromStr s)) ≡ paintOr (fromStr s)
-unfolding innerNumber
-part-told s a e r {x} {y} p h i k small f l b q = rw inner q
-  where
-    v : Ending s e
-    v = record { inside = i; spaces = k }
+-- a part of n bytes from a on, and r what is told of it
+module _ (s : List ℕ) (a n : ℕ) (v : Inked s a n) (h : 0 < n) where
+  pub part-inside : a + n ≤ length s
+  part-inside = v .some h .inside
 
-    g : true ≡ within 33 126 (getD s a 0)
-    g = sym (and-first x y b) ∙ f
+  module _ (small : length s ≤ 4096) where
+    pub part-from : a ≤ 4096
+    part-from = omega (arith, part-inside)
 
-    j : true ≡ within 33 126 (getD s (e - 1) 0)
-    j = sym (and-second x y b) ∙ l
+    pub part-small : length (take (a + n - a) (drop a s)) ≤ 4096
+    part-small = omega (arith, length-take (a + n - a) (drop a s), length-drop a s)
 
-    inner : paintOr (fromStr s) ≡ innerNumber a (take (e - a) (drop a s))
-    inner =
-        let w : trimOf s ≡ take (e - a) (drop a s) = trimmed-is s a e p h v g j in
-        rw (answer-read s, trimmed-from s a e p h v g j, w)
-        (admits-alike s (take (e - a) (drop a s)) (readNumber a (take (e - a) (drop a s))) small
-        (omega (arith, length-take (e - a) (drop a s), length-drop a s))
-        (λ u. rw w at (trim-utf8 s u)) (trimmed-utf8 s a e p h v g j))
+    pub part-fits : Fits w64 (a + n)
+    part-fits = omega (arith, part-inside)
+
+    inner-is : paintOr (fromStr s) ≡ innerNumber a (take n (drop a s))
+    unfolding innerNumber
+    inner-is =
+        let b = v .some h in
+        let w : trimOf s ≡ take n (drop a s) = trimmed-is s a n h b in
+        rw (answer-read s, trimmed-from s a n h b, w)
+        (admits-alike s (take n (drop a s)) (readNumber a (take n (drop a s))) small
+        (omega (arith, length-take n (drop a s), length-drop a s))
+        (λ u. rw w at (trim-utf8 s u)) (trimmed-utf8 s a n h b))
+
+    pub part-told : (r : ℕ) → orTold r (innerNumber a (take (a + n - a) (drop a s))) ≡ innerNumber a (take (a + n - a) (drop a s)) → orTold r (paintOr (fromStr s)) ≡ paintOr (fromStr s)
+    part-told r q =
+        let k : a + n - a ≡ n = omega arith in
+        rw inner-is (rw k at q)
+
+pub ruleset parted = (part-inside, part-from, part-small, part-fits)
 
 -- `&text[0..]` is the text
 module _ (s : List ℕ) (r : ℕ) (q : orTold r (paintOr (fromStr (take (length s - 0) (drop 0 s)))) ≡ paintOr (fromStr (take (length s - 0) (drop 0 s)))) where

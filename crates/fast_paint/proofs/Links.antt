@@ -12,7 +12,7 @@ use lib.Seq.{take-all, drop-cons}
 use mir.Syntax.{w64}
 use mir.Val.{Fits}
 use Rattle.utf8.specs.Blanks.{trimEnd}
-use Rattle.bytes.specs.Bytes.{within, isSpace, isOther, isBareByte}
+use Rattle.bytes.specs.Bytes.{within, isSpace, isOther}
 use Rattle.utf8.specs.Characters.{keeps, rowOf, lenAt, charLen, walk, utf8Of}
 use Rattle.bytes.specs.Moves.{place}
 use Rattle.stream.specs.Faults.{invalidValue, consumeByte, consumeString}
@@ -39,6 +39,7 @@ use Rattle.color.specs.declared.ColorRead.the-variants as C
 use Rattle.funciri.specs.Link.{isQuote, isLink, linkAt, closeLink, closeQuote, quotedLink, parseFuncIri}
 use Rattle.funciri.specs.declared.LinkRead.{LinkRead}
 use Rattle.funciri.specs.declared.LinkRead.the-variants as L
+use Rattle.fast_funciri.specs.Bare.{isBareByte}
 use Rattle.fast_funciri.proofs.Bare.{plain-quick, quoted-quick}
 use Rattle.fast_funciri.proofs.Links.{bare-ascii, url-named}
 use Rattle.bytes.proofs.Ahead.{scan-bytes}
@@ -126,7 +127,14 @@ module _ (t : List ℕ) (a q : ℕ) (n : q ≡ scan isBareByte t a) where
     pub link-next : a ≤ 6 → (k : ℕ) → k ≤ 2 → Fits w64 (q + k)
     link-next h k l = omega (arith, run-inside isBareByte t a)
 
-pub ruleset fitting = (link-past, link-len, link-next)
+-- a run may follow a byte that was seen
+pub hash-inside : (t : List ℕ) {b : ℕ} → b ≡ getD t 4 0 → b ≡ 35 → 5 ≤ length t
+hash-inside t {b} e h = omega (arith, byte-inside t 4 b e (omega arith))
+
+pub mark-inside : (t : List ℕ) {r : Bool} → r ≡ isCurrByteEq t 5 35 → r ≡ true → 6 ≤ length t
+mark-inside t q h = omega (arith, curr-inside t 5 35 q h)
+
+pub ruleset fitting = (link-past, link-len, link-next, hash-inside, mark-inside)
 
 -- a text that begins with `url(`, a link in it from a to q, and p, where reading goes on: ASCII stands before p
 module _ (t : List ℕ) (a q p : ℕ) (b : startsWith (ascii "url(") t ≡ true) (n : q ≡ scan isBareByte t a)

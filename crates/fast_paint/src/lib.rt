@@ -9,7 +9,9 @@ ghost use Rattle.bytes.specs.Words.{ascii, startsWith};
 ghost use Rattle.funciri.specs.Link.{isQuote};
 ghost use Rattle.packed.specs.Numbers.{places, starts, lens, fallbacks, paintOr};
 ghost use Rattle.paint.specs.Answers.{fromStr};
+ghost use Rattle.fast_paint.specs.Inked.{Inked};
 ghost use Rattle.fast_paint.specs.Told.{innerNumber, keywordOf, orTold, withFallback, withRest, uncolored};
+use bytes::Part;
 use bytes::Place;
 use packed::COLOR;
 use packed::FALLBACK;
@@ -18,7 +20,6 @@ use packed::NO_COLOR;
 use packed::NO_PAINT;
 use packed::PLACES;
 use packed::START;
-use paint::PaintAnswer;
 
 mod numbered;
 
@@ -108,7 +109,7 @@ fn told_quoted(text: &[u8], from: Place, quote: u8) -> u64
 {
     if bytes::is_curr_byte_eq(text, Place(5), b'#') {
         let by = from.0;
-        let end = bytes::skip_bare(text, Place(6));
+        let end = fast_funciri::skip_bare(text, Place(6));
         let q = end.0;
         if (6 < q)
             & (bytes::is_curr_byte_eq(text, end, quote)
@@ -130,7 +131,7 @@ fn told_linked(text: &[u8], from: Place) -> u64
         let b = bytes::byte_at(text, Place(4));
         if b == b'#' {
             let by = from.0;
-            let end = bytes::skip_bare(text, Place(5));
+            let end = fast_funciri::skip_bare(text, Place(5));
             let q = end.0;
             if (5 < q) & bytes::is_curr_byte_eq(text, end, b')') {
                 return with_rest(text, Place(q + 1), link_number(Place(by + 5), q - 5));
@@ -201,6 +202,44 @@ fn is_inked(b: u8) -> bool
     (b'!' <= b) & (b <= b'~')
 }
 
+// The part between the spaces at a text's ends, where visible characters end it; an empty one else.
+fn spaced_part(text: &[u8]) -> Part
+    ensures { λ r. ⌜ Inked (now (text .entry)) (r .start .0) (r .len) ⌝ }
+{
+    let start = bytes::skip_spaces(text, Place(0));
+    let end = space_end(text, start);
+    let a = start.0;
+    let e = end.0;
+    if a < e {
+        if is_inked(text[a]) & is_inked(text[e - 1]) {
+            return Part {
+                start: start,
+                len: e - a,
+            };
+        }
+    }
+    Part {
+        start: start,
+        len: 0,
+    }
+}
+
+// The same. Most texts have no spaces at their ends: one look at the first and the last byte tells.
+fn inked_part(text: &[u8]) -> Part
+    ensures { λ r. ⌜ Inked (now (text .entry)) (r .start .0) (r .len) ⌝ }
+{
+    let len = text.len();
+    if 0 < len {
+        if is_inked(text[0]) & is_inked(text[len - 1]) {
+            return Part {
+                start: Place(0),
+                len: len,
+            };
+        }
+    }
+    spaced_part(text)
+}
+
 // What is told of a whole text at once. Spaces alone are trimmed: that other white space stands at neither end is told by the first and the last byte left.
 fn told(text: &[u8]) -> u64
     ensures { λ r. ⌜ orTold r (paintOr (fromStr (now (text .entry)))) ≡ paintOr (fromStr (now (text .entry))) ⌝ }
@@ -208,25 +247,12 @@ fn told(text: &[u8]) -> u64
     if 4096 < text.len() {
         return TOO_LONG;
     }
-    let start = bytes::skip_spaces(text, Place(0));
-    let end = space_end(text, start);
+    let part = inked_part(text);
+    let start = part.start;
     let a = start.0;
-    let e = end.0;
-    if a < e {
-        if is_inked(text[a]) & is_inked(text[e - 1]) {
-            return told_inner(&text[a..e], start);
-        }
+    let n = part.len;
+    if 0 < n {
+        return told_inner(&text[a..a + n], start);
     }
     UNTOLD
-}
-
-// A refused text is read by the plain reader, which says why.
-pub fn from_str(text: &[u8]) -> PaintAnswer
-    ensures { λ r. ⌜ r ≡ fromStr (now (text .entry)) ⌝ }
-{
-    let v = told(&text[0..]);
-    if v < NO_PAINT {
-        return PaintAnswer::Value(packed::number_paint(v));
-    }
-    paint::from_str(text)
 }

@@ -1,3 +1,4 @@
+use Rattle.exports.proofs.Packed.{paint-none, paint-some}
 use borrow.Author.Needs.{needs}
 use Rattle.exports.proofs.homeludaf_paint.Statement.{statement}
 use Rattle.exports.proofs.homeludaf_paint.Tie as tie
@@ -7,5 +8,7 @@ homeludaf-paint-spec =
     tie.close
     (tie.spec
     (λ c κs. search needs)
+    (λ c. search (paint-none, needs))
     (λ c κs. search needs)
-    (λ c. rw (← c .before .from-str .ensures) (c .write-paint .ensures)))
+    (λ c κs. search needs)
+    (λ c. search (paint-some, needs)))

@@ -1,5 +1,5 @@
 use borrow.Author.Needs.{needs}
-use Rattle.fast_funciri.proofs.Links.{linked}
+use Rattle.fast_funciri.proofs.Links.{linked, entered}
 use Rattle.fast_funciri.proofs.func_iri_from_str.Statement.{statement}
 use Rattle.fast_funciri.proofs.func_iri_from_str.Tie as tie
 
@@ -9,7 +9,7 @@ func-iri-from-str-spec =
     (tie.spec
     (λ c. search needs)
     (λ c κs. search needs)
-    (λ c κs. search needs)
+    (λ c κs. search (entered, needs))
     (λ c. search needs)
     (λ c. search needs)
     (λ c. search needs)

@@ -1,5 +1,5 @@
 use borrow.Author.Needs.{needs}
-use Rattle.fast_funciri.proofs.Links.{linked}
+use Rattle.fast_funciri.proofs.Links.{linked, entered}
 use Rattle.fast_funciri.proofs.iri_from_str.Statement.{statement}
 use Rattle.fast_funciri.proofs.iri_from_str.Tie as tie
 
@@ -8,7 +8,7 @@ iri-from-str-spec =
     tie.close
     (tie.spec
     (λ c κs. search needs)
-    (λ c κs. search needs)
+    (λ c κs. search (entered, needs))
     (λ c. search needs)
     (λ c. search (linked, needs) depth 10)
     (λ c κs. search needs)

@@ -1,5 +1,4 @@
-use Rattle.bytes.proofs.Scans.{scan-inside}
-use Rattle.fast_paint.proofs.Answers.{long-told, part-told}
+use Rattle.fast_paint.proofs.Answers.{long-told, parted, part-told}
 use borrow.Author.Needs.{needs}
 use Rattle.fast_paint.proofs.told.Statement.{statement}
 use Rattle.fast_paint.proofs.told.Tie as tie
@@ -10,16 +9,10 @@ told-spec =
     (tie.spec
     (λ c. search (long-told, needs))
     (λ c κs. search needs)
-    (λ c κs. search (scan-inside, needs))
-    (λ c. search needs)
-    (λ c κs. search needs)
+    (λ c. search (parted, needs))
     (λ c. search needs)
     (λ c. search needs)
-    (λ c κs. search needs)
-    (λ c. search needs)
-    (λ c. search needs)
-    (λ c. search needs)
-    (λ c κs. search needs)
+    (λ c. search (parted, needs))
+    (λ c κs. search (parted, needs))
     (λ c. search (part-told, needs))
-    (λ c. search needs)
     (λ c. search needs))

@@ -10,7 +10,7 @@ told-linked-spec =
     (λ c. search needs)
     (λ c κs. search needs)
     (λ c κs. search needs)
-    (λ c κs. search needs)
+    (λ c κs. search (fitting, needs))
     (λ c κs. search needs)
     (λ c. search (fitting, needs))
     (λ c. search needs)

@@ -8,7 +8,7 @@ told-quoted-spec =
     tie.close
     (tie.spec
     (λ c κs. search needs)
-    (λ c κs. search needs)
+    (λ c κs. search (fitting, needs))
     (λ c κs. search needs)
     (λ c. search (fitting, needs))
     (λ c κs. search needs)
