@@ -1,0 +1,13 @@
+pub mod Cuts
+pub mod Apart
+pub mod Parts
+pub mod Longest
+pub mod Numbers
+pub mod Measures
+pub mod Meant
+pub mod Hexes
+pub mod Nonzero
+pub mod Steps
+pub mod Disallowed
+pub mod Names
+pub mod Proved
