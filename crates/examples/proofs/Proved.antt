@@ -25,6 +25,7 @@ use Rattle.color.specs.Color.{afterNumber, closeBracket, parseAlpha, rgbMarked,
 use Rattle.funciri.specs.Link.{hasQuote, isLink, closeLink, closeQuote, quotedLink, plainLink, parseIri, parseFuncIri}
 use Rattle.paint.specs.Answers as paints
 use Rattle.paint.specs.Moves.{linkStart, movePaint}
+use Rattle.inherit.specs.Rule.{isInherit, isEmpty, asked, inheritedOf}
 use Rattle.paint.specs.Reading.{parsePaint, parseLinked, parseFallback, parsePlain}
 use Rattle.filter_functions.specs.Filters as filters
 use Rattle.filter_functions.specs.Filters.{nextFilter, stepOf, parseStep, afterNone, parseNext, parseArgument, filterName, plainName}
@@ -58,7 +59,7 @@ examples =
     }
 
 pub shut : Shut
-unfolding colors.fromStr hasQuote isLink closeLink closeQuote quotedLink plainLink parseIri parseFuncIri iriFromStr paints.fromStr paints.inheritedOf paints.isInherit trimPart lengths.fromStr nextFilter stepOf admitPlace onCharacter admitText admitUtf8 utf8Of walk charLen lenAt rowOf keeps within refusalOf numberOf isOutsideDomain calcCharPosAt count firsts trimOf trimStart front trimEnd back blankAt blankLen blankBefore blankEnd byteBefore blank1 blank2 blank3 parsePaint parseLinked parseFallback parsePlain movePaint linkStart parseWhole parseLength unitAt unitRest unitWidth parseUnit parseStep afterNone parseNext parseArgument filterName plainName filters.closeBracket isPercent parseFilterLength parseFilterPositiveLength parseFilterAngle parseGenericColorFunc plainValue parseBlur parseHueRotate tryParseColor parseDeviation parseShadowLengths shadowBefore shadowAfter parseDropShadowFunc parseColorText parseColor parseHex longColor shortColor hexPair shortHex fromHex parseWord part same startsWith lowerOf isRgb isHsl namedColor namedOf lookUp keywords parseRgb parseHsl hslRest rgbRest rgbMarked rgbPlain afterNumber parseAlpha closeBracket consumeByte consumeString hslColor hslToRgb hueToRgb narrowed channelOf parseNumber parseNumberOrPercent parseListNumber parseListNumberOrPercent afterItem parseListSeparator numberFrom finished scaled valueOf scaleOf exponentAt exponentFrom mantissaAt mantissaDot afterSign value scan run bind isCurrByteEq powerOf powerBits mul div add sub rem neg lt le eq ofInt ofBits funcIriFromStr wholeLink sameColour firstNamed nameAnswer settled hexAnswer keywordOf keywordAnswer digit allDoubled shortText longText hexText nextLength parseListLength
+unfolding colors.fromStr hasQuote isLink closeLink closeQuote quotedLink plainLink parseIri parseFuncIri iriFromStr paints.fromStr inheritedOf asked isEmpty isInherit trimPart lengths.fromStr nextFilter stepOf admitPlace onCharacter admitText admitUtf8 utf8Of walk charLen lenAt rowOf keeps within refusalOf numberOf isOutsideDomain calcCharPosAt count firsts trimOf trimStart front trimEnd back blankAt blankLen blankBefore blankEnd byteBefore blank1 blank2 blank3 parsePaint parseLinked parseFallback parsePlain movePaint linkStart parseWhole parseLength unitAt unitRest unitWidth parseUnit parseStep afterNone parseNext parseArgument filterName plainName filters.closeBracket isPercent parseFilterLength parseFilterPositiveLength parseFilterAngle parseGenericColorFunc plainValue parseBlur parseHueRotate tryParseColor parseDeviation parseShadowLengths shadowBefore shadowAfter parseDropShadowFunc parseColorText parseColor parseHex longColor shortColor hexPair shortHex fromHex parseWord part same startsWith lowerOf isRgb isHsl namedColor namedOf lookUp keywords parseRgb parseHsl hslRest rgbRest rgbMarked rgbPlain afterNumber parseAlpha closeBracket consumeByte consumeString hslColor hslToRgb hueToRgb narrowed channelOf parseNumber parseNumberOrPercent parseListNumber parseListNumberOrPercent afterItem parseListSeparator numberFrom finished scaled valueOf scaleOf exponentAt exponentFrom mantissaAt mantissaDot afterSign value scan run bind isCurrByteEq powerOf powerBits mul div add sub rem neg lt le eq ofInt ofBits funcIriFromStr wholeLink sameColour firstNamed nameAnswer settled hexAnswer keywordOf keywordAnswer digit allDoubled shortText longText hexText nextLength parseListLength
 shut =
     record {
       alpha = refl;
@@ -71,6 +72,8 @@ shut =
       inherits = refl;
       current = refl;
       whose = refl;
+      empty-own = refl;
+      empty-both = refl;
       painted = refl;
       painted-large = refl;
       painted-form = refl;

@@ -16,11 +16,12 @@ use Rattle.funciri.specs.Answers.{iriFromStr, funcIriFromStr}
 use Rattle.funciri.specs.Link.{linkAt}
 use Rattle.funciri.specs.declared.LinkAnswer.the-variants as K
 use Rattle.paint.specs.Answers as paints
-use Rattle.paint.specs.declared.Inheritance.the-variants as I
 use Rattle.paint.specs.declared.Paint.the-variants as W
 use Rattle.paint.specs.declared.PaintAnswer.the-variants as P
 use Rattle.paint.specs.declared.PaintFallback.the-variants as B
-use Rattle.paint.specs.declared.Whose.the-variants as O
+use Rattle.inherit.specs.Rule.{inheritedOf}
+use Rattle.inherit.specs.declared.Inheritance.the-variants as I
+use Rattle.inherit.specs.declared.Whose.the-variants as O
 use Rattle.filter_functions.specs.Filters.{nextFilter}
 use Rattle.filter_functions.specs.declared.FilterStep.the-variants as F
 use Rattle.set_back.specs.Answers.{hexAnswer, keywordAnswer}
@@ -45,11 +46,14 @@ pub record Shut : Type 0 where
   -- a link's place counts from the lent text, and not from the trimmed one
   pub moved : paints.fromStr (ascii " url(#a)") ≡ P.Value (W.FuncIRI (linkAt (place 6) 1) B.Absent)
   -- the parent's text is chosen for `inherit`,
-  pub inherits : paints.inheritedOf (ascii "inherit") (ascii "red") ≡ I.Chosen O.Parent (linkAt (place 0) 3)
+  pub inherits : inheritedOf (ascii "inherit") (ascii "red") ≡ I.Chosen O.Parent (linkAt (place 0) 3)
   -- and for no other word
-  pub current : paints.inheritedOf (ascii "currentColor") (ascii "red") ≡ I.Chosen O.Own (linkAt (place 0) 12)
+  pub current : inheritedOf (ascii "currentColor") (ascii "red") ≡ I.Chosen O.Own (linkAt (place 0) 12)
   -- a refusal of the parent's text is told as the parent's
-  pub whose : paints.inheritedOf (ascii "inherit") (ascii "x") ≡ I.Refused O.Parent (refusal 5 0 0 0 1 1)
+  pub whose : inheritedOf (ascii "inherit") (ascii "x") ≡ I.Refused O.Parent (refusal 5 0 0 0 1 1)
+  -- an empty own text chooses the parent's, and U+00A0 is empty after trimming
+  pub empty-own : inheritedOf [] (ascii "red") ≡ I.Chosen O.Parent (linkAt (place 0) 3)
+  pub empty-both : inheritedOf [] (0xc2 ∷ 0xa0 ∷ []) ≡ I.Higher
   -- a number outside the domain is not swallowed by a paint
   pub painted : paints.fromStr (ascii "rgb(1e23,0,0)") ≡ P.Refused (refusal 24 5 0 0 4 8)
   -- whichever of the three troubles it has

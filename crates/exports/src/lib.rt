@@ -9,6 +9,7 @@ ghost use Rattle.angle.specs.Angles as angles;
 ghost use Rattle.color.specs.Answer as colors;
 ghost use Rattle.color.specs.Color.{rgba};
 ghost use Rattle.filter_functions.specs.Filters.{nextFilter};
+ghost use Rattle.inherit.specs.Rule.{inheritedOf};
 ghost use Rattle.funciri.specs.Answers.{iriFromStr, funcIriFromStr};
 ghost use Rattle.length.specs.Lengths as lengths;
 ghost use Rattle.lent.specs.Texts.{written};
@@ -100,9 +101,9 @@ pub extern "C" fn homeludaf_paint_packed(text: &[u8], answer: &mut [u64; 24]) ->
 // The inherit rule, over an element's own text and its parent's.
 #[no_mangle]
 pub extern "C" fn homeludaf_inherited(own: &[u8], parent: &[u8], answer: &mut [u64; 24])
-    ensures { λ _. ⌜ now (answer .exit) ≡ inheritedRecord (paints.inheritedOf (now (own .entry)) (now (parent .entry))) ⌝ }
+    ensures { λ _. ⌜ now (answer .exit) ≡ inheritedRecord (inheritedOf (now (own .entry)) (now (parent .entry))) ⌝ }
 {
-    records::write_inherited(answer, paint::inherited(own, parent));
+    records::write_inherited(answer, inherit::inherited(own, parent));
 }
 
 // One step of a list of filter values, from a list place: likewise.

@@ -1,8 +1,7 @@
--- Rules for `search`: the returns of the readers and of the outside calls.
+-- Rules for `search`: the returns of the readers and of the outside call.
 use Prim.Native.Nat.{ℕ, _-_, _≤_}
-use mathlib.Core.Bool.{Bool, true, false, cond}
-use mathlib.Core.List.{List, []}
-use mathlib.Core.Path.{_≡_, refl, sym, ap, _∙_}
+use mathlib.Core.List.{List}
+use mathlib.Core.Path.{_≡_, refl, sym, _∙_}
 use native.Mathlib.Omega.{arith}
 use lib.ListN.{length, take, drop, length-drop}
 use lib.Seq.{length-take-le}
@@ -22,20 +21,15 @@ use Rattle.utf8.proofs.Cuts.{trim-utf8, utf8-drop}
 use Rattle.stream.proofs.Edges.{admitted-small, admitted-utf8}
 use Rattle.bytes.proofs.Parts.{rest-part}
 use Rattle.utf8.proofs.Trimming.{trimStart-le, trimEnd-le}
-use Rattle.paint.specs.Answers.{isInherit, fromStr, inheritedOf, bytesOf, chosenBytes, inheritedPart}
-use Rattle.paint.specs.Moves.{linkStart, movePaint, thenPaintRead, thenPaintAnswer}
+use Rattle.paint.specs.Answers.{fromStr}
+use Rattle.paint.specs.Moves.{linkStart, movePaint, thenPaintRead}
 use Rattle.paint.specs.Reading.{parseFallback, parsePaint}
-use Rattle.paint.specs.declared.Inheritance.{Inheritance}
-use Rattle.paint.specs.declared.Inheritance.the-variants as I
 use Rattle.paint.specs.declared.Paint.{Paint}
 use Rattle.paint.specs.declared.Paint.the-variants as P
-use Rattle.paint.specs.declared.PaintAnswer.{PaintAnswer}
 use Rattle.paint.specs.declared.PaintAnswer.the-variants as A
 use Rattle.paint.specs.declared.PaintFallback.{PaintFallback}
 use Rattle.paint.specs.declared.PaintRead.{PaintRead}
 use Rattle.paint.specs.declared.PaintRead.the-variants as R
-use Rattle.paint.specs.declared.Whose.{Whose}
-use Rattle.paint.specs.declared.Whose.the-variants as W
 use Rattle.paint.proofs.Bases.{parse-paint-inside, parse-paint-on}
 use Rattle.paint.proofs.Inside.{parse-paint-link}
 
@@ -66,18 +60,6 @@ module _ {B : Type 0} (x : B) (out : Fault → Place → B) (t r : PaintRead) (k
 
   pub read-out : (e : Fault) (b : Place) → r ≡ R.Refused e b → x ≡ out e b → x ≡ thenPaintRead out t k
   read-out e b f h = rw (← q, f) h
-
-module _ {B : Type 0} (x : B) (out : Refusal → B) (t r : PaintAnswer) (k : Paint → B) (q : r ≡ t) where
-  pub paint-value : (v : Paint) → r ≡ A.Value v → x ≡ k v → x ≡ thenPaintAnswer out t k
-  paint-value v e h = rw (← q, e) h
-
-  pub paint-out : (e : Refusal) → r ≡ A.Refused e → x ≡ out e → x ≡ thenPaintAnswer out t k
-  paint-out e f h = rw (← q, f) h
-
-pub chosen-part : (w : Whose) {p q : Part} → p ≡ q → I.Chosen w p ≡ I.Chosen w q
-chosen-part w h = rw h
-
-pub ruleset paints = (paint-value, paint-out, chosen-part)
 
 -- trimming: what it leaves, and how far it goes
 pub trim-small : (t s : List ℕ) → t ≡ trimOf s → length s ≤ 4096 → length t ≤ 4096
@@ -116,42 +98,3 @@ unfolding trimPart
 answer-value s v p q h = rw (h, q)
 
 pub ruleset answers = (read-value, read-out, answer-value)
-
--- the bytes of the part that was chosen are those that trimming leaves
-abbrev trimmedBytes : List ℕ → List ℕ → Inheritance → List ℕ
-trimmedBytes o p (I.Chosen W.Own l) = trimOf o
-trimmedBytes o p (I.Chosen W.Parent l) = trimOf p
-trimmedBytes o p (I.Refused w e) = []
-
-chosen-trimmed : (o p : List ℕ) → inheritedPart o p ≡ trimmedBytes o p (inheritedOf o p)
-unfolding inheritedPart inheritedOf chosenBytes bytesOf trimPart trimOf
-chosen-trimmed o p = judged (fromStr o) (fromStr p)
-  where
-    answer : PaintAnswer → Inheritance
-    answer b = thenPaintAnswer (I.Refused W.Parent) b (λ w. I.Chosen W.Parent (trimPart p))
-
-    parent : (b : PaintAnswer) → chosenBytes o p (answer b) ≡ trimmedBytes o p (answer b)
-    parent (A.Value w) = refl
-    parent (A.Refused e) = refl
-
-    own : (t : Bool) (b : PaintAnswer) → chosenBytes o p (cond t (answer b) (I.Chosen W.Own (trimPart o))) ≡ trimmedBytes o p (cond t (answer b) (I.Chosen W.Own (trimPart o)))
-    own true b = parent b
-    own false b = refl
-
-    judged : (a b : PaintAnswer) → chosenBytes o p (thenPaintAnswer (I.Refused W.Own) a (λ v. cond (isInherit v) (answer b) (I.Chosen W.Own (trimPart o))))
-        ≡ trimmedBytes o p (thenPaintAnswer (I.Refused W.Own) a (λ v. cond (isInherit v) (answer b) (I.Chosen W.Own (trimPart o))))
-    judged (A.Value v) b = own (isInherit v) b
-    judged (A.Refused e) b = refl
-
-module _ (o p : List ℕ) {r : Inheritance} (q : r ≡ inheritedOf o p) where
-  pub part-none : (w : Whose) (e : Refusal) → r ≡ I.Refused w e → [] ≡ inheritedPart o p
-  part-none w e f = sym (chosen-trimmed o p ∙ ap (trimmedBytes o p) (sym q ∙ f))
-
-  module _ (w : Whose) (l : Part) {t : List ℕ} (f : r ≡ I.Chosen w l) where
-    pub part-own : w ≡ W.Own → t ≡ trimOf o → t ≡ inheritedPart o p
-    part-own g h = h ∙ sym (chosen-trimmed o p ∙ ap (trimmedBytes o p) (sym q ∙ f ∙ ap (λ x. I.Chosen x l) g))
-
-    pub part-parent : w ≡ W.Parent → t ≡ trimOf p → t ≡ inheritedPart o p
-    part-parent g h = h ∙ sym (chosen-trimmed o p ∙ ap (trimmedBytes o p) (sym q ∙ f ∙ ap (λ x. I.Chosen x l) g))
-
-pub ruleset chosen = (part-none, part-own, part-parent)

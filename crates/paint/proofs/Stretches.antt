@@ -4,13 +4,12 @@ use mathlib.Core.Bool.{Bool, true, false, cond}
 use mathlib.Core.List.{List}
 use mathlib.Core.Path.{_≡_, refl, ap}
 use native.Mathlib.Omega.{arith}
-use lib.Dec.{T, leb}
+use lib.Dec.{leb}
 use lib.ListN.{length, drop}
 use Rattle.bytes.specs.Bytes.{isSpace}
 use Rattle.bytes.specs.Moves.{place}
 use Rattle.bytes.specs.Flow.{bind}
 use Rattle.bytes.specs.Scan.{scan}
-use Rattle.bytes.proofs.Ranges.{either}
 use Rattle.bytes.specs.declared.Part.{Part}
 use Rattle.bytes.specs.declared.Place.{Place}
 use Rattle.stream.specs.Faults.{invalidValue}
@@ -24,20 +23,15 @@ use Rattle.color.specs.declared.ColorRead.{ColorRead}
 use Rattle.color.specs.declared.ColorRead.the-variants as C
 use Rattle.color.proofs.Stretches.{text-lies}
 use Rattle.funciri.proofs.Stretches.{func-iri-then}
-use Rattle.utf8.specs.Blanks.{trimStart, trimPart, trimOf}
+use Rattle.utf8.specs.Blanks.{trimStart, trimOf}
 use Rattle.stream.specs.Refusals.{Inside, refusalOf, admitText, thenAdmitted}
 use Rattle.stream.specs.declared.Admission.{Admission}
 use Rattle.stream.specs.declared.Admission.the-variants as M
 use Rattle.stream.specs.declared.Refusal.{Refusal}
 use Rattle.stream.proofs.Insides.{refusal-inside, admit-inside}
-use Rattle.paint.specs.Answers.{fromStr, atHand, isInherit, inheritedOf}
-use Rattle.paint.specs.Moves.{movePaint, thenPaintRead, thenPaintAnswer}
-use Rattle.paint.specs.declared.Inheritance.{Inheritance}
-use Rattle.paint.specs.declared.Inheritance.the-variants as I
-use Rattle.paint.specs.declared.PaintAnswer.{PaintAnswer}
+use Rattle.paint.specs.Answers.{fromStr, atHand}
+use Rattle.paint.specs.Moves.{movePaint, thenPaintRead}
 use Rattle.paint.specs.declared.PaintAnswer.the-variants as A
-use Rattle.paint.specs.declared.Whose.{Whose}
-use Rattle.paint.specs.declared.Whose.the-variants as W
 use Rattle.paint.specs.Reading.{parseFallback, parseLinked, parsePlain, parsePaint}
 use Rattle.paint.specs.declared.Paint.{Paint}
 use Rattle.paint.specs.declared.PaintRead.{PaintRead}
@@ -113,28 +107,3 @@ stretch-inside s e = go (admitText s) refl (parsePaint (trimOf s)) refl
         let w = refusal-inside (drop (b .0) (trimOf s)) (paint-lies (trimOf s) f b p .lies) in
         rw z at w
     go (M.Refused f) a y p q = let z = same q in rw z at (admit-inside s f a)
-
--- THEOREM. And so of the inherit rule, in the text that it judged
-abbrev judged : List ℕ → List ℕ → Whose → List ℕ
-judged own parent W.Own = atHand own
-judged own parent W.Parent = atHand parent
-
-module _ (own parent : List ℕ) where
-  abbrev Judges : Inheritance → Type 0
-  Judges (I.Chosen w p) = T true
-  Judges (I.Refused w e) = Inside (length (judged own parent w)) e
-
-  pub inherited-inside : (w : Whose) (e : Refusal) → inheritedOf own parent ≡ I.Refused w e → Inside (length (judged own parent w)) e
-  unfolding inheritedOf
-  inherited-inside w e q =
-      let k : Judges (inheritedOf own parent) = go (fromStr own) refl (fromStr parent) refl in
-      rw q at k
-    where
-      go : (x : PaintAnswer) → fromStr own ≡ x → (y : PaintAnswer) → fromStr parent ≡ y
-          → Judges (thenPaintAnswer (I.Refused W.Own) x (λ v. cond (isInherit v) (thenPaintAnswer (I.Refused W.Parent) y (λ w. I.Chosen W.Parent (trimPart parent))) (I.Chosen W.Own (trimPart own))))
-      go (A.Refused f) p y r = stretch-inside own f p
-      go (A.Value v) p y r = either (isInherit v) (λ t. simp t (parents y r)) (λ t. simp t tt)
-        where
-          parents : (y : PaintAnswer) → fromStr parent ≡ y → Judges (thenPaintAnswer (I.Refused W.Parent) y (λ w. I.Chosen W.Parent (trimPart parent)))
-          parents (A.Value w) r = tt
-          parents (A.Refused f) r = stretch-inside parent f r

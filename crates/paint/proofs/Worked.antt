@@ -5,15 +5,13 @@ use Rattle.bytes.specs.Bytes.{within}
 use Rattle.bytes.specs.Flow.{bind}
 use Rattle.bytes.specs.Words.{ascii, same}
 use Rattle.utf8.specs.Characters.{keeps, rowOf, lenAt, charLen, walk, utf8Of}
-use Rattle.utf8.specs.Blanks.{blank1, blank2, blank3, blankLen, blankAt, byteBefore, blankEnd, blankBefore, front, trimStart, back, trimEnd, trimPart, trimOf}
+use Rattle.utf8.specs.Blanks.{blank1, blank2, blank3, blankLen, blankAt, byteBefore, blankEnd, blankBefore, front, trimStart, back, trimEnd, trimOf}
 use Rattle.stream.specs.Refusals.{admitUtf8, admitText}
 use Rattle.paint.specs.Moves.{movePaint}
 use Rattle.paint.specs.Reading.{parsePaint}
-use Rattle.paint.specs.Answers.{isInherit, fromStr, inheritedOf, bytesOf, chosenBytes, inheritedPart}
-use Rattle.paint.specs.declared.Inheritance.the-variants as I
+use Rattle.paint.specs.Answers.{fromStr}
 use Rattle.paint.specs.declared.Paint.the-variants as P
 use Rattle.paint.specs.declared.PaintAnswer.the-variants as A
-use Rattle.paint.specs.declared.Whose.the-variants as W
 
 none-read : fromStr (ascii "  none ") ≡ A.Value P.None
 unfolding fromStr bind admitText admitUtf8 utf8Of walk charLen lenAt rowOf keeps within trimOf trimStart front trimEnd back blankAt blankLen blankBefore blankEnd byteBefore blank1 blank2 blank3 parsePaint same movePaint
@@ -35,16 +33,3 @@ context-fill-read = refl
 context-stroke-read : fromStr (ascii "context-stroke ") ≡ A.Value P.ContextStroke
 unfolding fromStr bind admitText admitUtf8 utf8Of walk charLen lenAt rowOf keeps within trimOf trimStart front trimEnd back blankAt blankLen blankBefore blankEnd byteBefore blank1 blank2 blank3 parsePaint same movePaint
 context-stroke-read = refl
-
--- the parent's part, trimmed; a parent that reads `inherit` is a paint
-parent-chosen : inheritedOf (ascii " inherit ") (ascii "  none ") ≡ I.Chosen W.Parent (record { start = record { 0 = 2 }; len = 4 })
-unfolding inheritedOf isInherit trimPart fromStr bind admitText admitUtf8 utf8Of walk charLen lenAt rowOf keeps within trimOf trimStart front trimEnd back blankAt blankLen blankBefore blankEnd byteBefore blank1 blank2 blank3 parsePaint same movePaint
-parent-chosen = refl
-
-parent-bytes : inheritedPart (ascii "inherit") (ascii " inherit") ≡ ascii "inherit"
-unfolding inheritedPart chosenBytes bytesOf inheritedOf isInherit trimPart fromStr bind admitText admitUtf8 utf8Of walk charLen lenAt rowOf keeps within trimOf trimStart front trimEnd back blankAt blankLen blankBefore blankEnd byteBefore blank1 blank2 blank3 parsePaint same movePaint
-parent-bytes = refl
-
-own-chosen : inheritedOf (ascii " currentColor") (0xff ∷ []) ≡ I.Chosen W.Own (record { start = record { 0 = 1 }; len = 12 })
-unfolding inheritedOf isInherit trimPart fromStr bind admitText admitUtf8 utf8Of walk charLen lenAt rowOf keeps within trimOf trimStart front trimEnd back blankAt blankLen blankBefore blankEnd byteBefore blank1 blank2 blank3 parsePaint same movePaint
-own-chosen = refl

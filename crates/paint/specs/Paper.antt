@@ -1,23 +1,20 @@
--- Document 01's record of each outside answer: "a result of zeros with an empty link" for a refusal.
+-- Document 01's record of the outside answer: "a result of zeros with an empty link" for a refusal.
 use Prim.Native.Nat.{ℕ}
 use Rattle.stream.specs.Refusals.{bareRefusal}
 use Rattle.bytes.specs.declared.Part.{Part}
 use Rattle.stream.specs.declared.Refusal.{Refusal}
 use Rattle.color.specs.declared.Color.{Color}
-use Rattle.paint.specs.declared.Inheritance.{Inheritance}
-use Rattle.paint.specs.declared.Inheritance.the-variants as I
 use Rattle.paint.specs.declared.Paint.{Paint}
 use Rattle.paint.specs.declared.Paint.the-variants as P
 use Rattle.paint.specs.declared.PaintAnswer.{PaintAnswer}
 use Rattle.paint.specs.declared.PaintAnswer.the-variants as A
 use Rattle.paint.specs.declared.PaintFallback.{PaintFallback}
 use Rattle.paint.specs.declared.PaintFallback.the-variants as F
-use Rattle.paint.specs.declared.Whose.{Whose}
 
 abbrev noColor : Color
 noColor = record { red = 0; green = 0; blue = 0; alpha = 0 }
 
-abbrev emptyPart : Part
+abbrev pub emptyPart : Part
 emptyPart = record { start = record { 0 = 0 }; len = 0 }
 
 -- a fallback: 0 none was written, 1 `none`, 2 `currentColor`, 3 a colour
@@ -57,13 +54,3 @@ pub record Paper : Type 0 where
 unfoldable pub paper : PaintAnswer → Paper
 paper (A.Value v) = record { refusal = bareRefusal 0; result = paperPaint v }
 paper (A.Refused e) = record { refusal = e; result = plain 0 noColor }
-
--- "that refusal, telling whose text it is, and an empty part"
-pub record PaperInherited : Type 0 where
-  pub refusal : Refusal
-  pub whose : Whose
-  pub part : Part
-
-unfoldable pub paperInherited : Inheritance → PaperInherited
-paperInherited (I.Chosen w p) = record { refusal = bareRefusal 0; whose = w; part = p }
-paperInherited (I.Refused w e) = record { refusal = e; whose = w; part = emptyPart }

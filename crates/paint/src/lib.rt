@@ -1,12 +1,12 @@
-// Paint: a keyword, a colour, or a link with an optional fallback; and the inherit rule.
+// Paint: a keyword, a colour, or a link with an optional fallback.
 ghost use mathlib.Core.Path.{_≡_};
 ghost use Prim.Native.Nat.{_≤_};
 ghost use lib.ListN.{length};
 ghost use Rattle.paint.specs.Moves.{linkStart, movePaint};
 ghost use Rattle.bytes.specs.Moves.{movePart};
 ghost use Rattle.paint.specs.Reading.{parseFallback, parseLinked, parsePlain, parsePaint};
-ghost use Rattle.paint.specs.Answers.{isInherit, fromStr, inheritedOf, inheritedPart};
-ghost use Rattle.paint.specs.Paper.{paper, paperInherited};
+ghost use Rattle.paint.specs.Answers.{fromStr};
+ghost use Rattle.paint.specs.Paper.{paper};
 use bytes::Part;
 use bytes::Place;
 use color::Color;
@@ -43,18 +43,6 @@ pub enum PaintRead {
 pub enum PaintAnswer {
     Value(Paint),
     Refused(Refusal),
-}
-
-// An element's own text, or its parent's.
-pub enum Whose {
-    Own,
-    Parent,
-}
-
-// The part that the inherit rule chooses, or why a text that was judged is no paint.
-pub enum Inheritance {
-    Chosen(Whose, Part),
-    Refused(Whose, Refusal),
 }
 
 // The fallback's bytes, which start at `base` of the paint.
@@ -185,48 +173,5 @@ pub fn from_str(text: &[u8]) -> PaintAnswer
                 }
             }
         }
-    }
-}
-
-fn is_inherit(paint: Paint) -> bool
-    ensures { λ r. ⌜ r ≡ isInherit paint ⌝ }
-{
-    match paint {
-        Paint::Inherit => true,
-        _ => false,
-    }
-}
-
-// Whose text paints an element, and which part of it.
-pub fn inherited(own: &[u8], parent: &[u8]) -> Inheritance
-    ensures { λ r. ⌜ r ≡ inheritedOf (now (own .entry)) (now (parent .entry)) ⌝ }
-    ensures { λ r. ⌜ paperInherited r ≡ paperInherited (inheritedOf (now (own .entry)) (now (parent .entry))) ⌝ }
-{
-    match from_str(own) {
-        PaintAnswer::Refused(refusal) => Inheritance::Refused(Whose::Own, refusal),
-        PaintAnswer::Value(paint) => {
-            if is_inherit(paint) {
-                return match from_str(parent) {
-                    PaintAnswer::Refused(refusal) => Inheritance::Refused(Whose::Parent, refusal),
-                    PaintAnswer::Value(_) => {
-                        Inheritance::Chosen(Whose::Parent, utf8::trim(parent))
-                    }
-                };
-            }
-            Inheritance::Chosen(Whose::Own, utf8::trim(own))
-        }
-    }
-}
-
-// The bytes of that part, none for a refusal.
-pub fn inherited_part<'a>(own: &'a [u8], parent: &'a [u8]) -> &'a [u8]
-    ensures { λ r. ⌜ now r ≡ inheritedPart (now (own .entry)) (now (parent .entry)) ⌝ }
-{
-    match inherited(own, parent) {
-        Inheritance::Refused(_, _) => &own[..0],
-        Inheritance::Chosen(whose, _) => match whose {
-            Whose::Own => utf8::trimmed(own),
-            Whose::Parent => utf8::trimmed(parent),
-        },
     }
 }

@@ -30,16 +30,17 @@ use Rattle.angle.specs.declared.AngleAnswer.the-variants as A
 use Rattle.funciri.specs.declared.LinkAnswer.{LinkAnswer}
 use Rattle.funciri.specs.declared.LinkAnswer.the-variants as K
 use Rattle.paint.specs.Paper as paints
-use Rattle.paint.specs.declared.Inheritance.{Inheritance}
-use Rattle.paint.specs.declared.Inheritance.the-variants as I
+use Rattle.inherit.specs.Paper.{whoseNumber, higherNumber, paperInherited}
+use Rattle.inherit.specs.declared.Inheritance.{Inheritance}
+use Rattle.inherit.specs.declared.Inheritance.the-variants as I
 use Rattle.paint.specs.declared.Paint.{Paint}
 use Rattle.paint.specs.declared.Paint.the-variants as P
 use Rattle.paint.specs.declared.PaintAnswer.{PaintAnswer}
 use Rattle.paint.specs.declared.PaintAnswer.the-variants as Q
 use Rattle.paint.specs.declared.PaintFallback.{PaintFallback}
 use Rattle.paint.specs.declared.PaintFallback.the-variants as F
-use Rattle.paint.specs.declared.Whose.{Whose}
-use Rattle.records.specs.Records.{row, foundRow, bitsOf, lengthUnit, angleUnit, colorEntries, colorRecord, lengthRecord, lengthStepRecord, angleRecord, linkRecord, paintRow, paintRecord, whoseNumber, inheritedRecord}
+use Rattle.inherit.specs.declared.Whose.{Whose}
+use Rattle.records.specs.Records.{row, foundRow, bitsOf, lengthUnit, angleUnit, colorEntries, colorRecord, lengthRecord, lengthStepRecord, angleRecord, linkRecord, paintRow, paintRecord, inheritedRecord}
 
 -- 24 entries stored over 24 are all of them
 pub all-of : {o : List ℕ} (xs r : List ℕ) → o ≡ paste xs 0 r 24 → length xs ≡ 24 → length r ≡ 24 → o ≡ r
@@ -138,13 +139,17 @@ paint-link h w = rw h w
 -- the inherit rule: n is whose text it is
 module _ {o : List ℕ} {a : Inheritance} {w : Whose} {n : ℕ} where
   pub inherited-refused : {e : Refusal} → a ≡ I.Refused w e → o ≡ row e 0 0 [] → n ≡ whoseNumber w → set o 9 n ≡ inheritedRecord a
-  unfolding row inheritedRecord paints.paperInherited
+  unfolding row inheritedRecord paperInherited
   inherited-refused h f g = rw (h, f, g)
 
   pub inherited-chosen : {p : Part} (xs : List ℕ) → a ≡ I.Chosen w p → n ≡ whoseNumber w → o ≡ paste xs 0 (foundRow 0 (n ∷ p .start .0 ∷ p .len ∷ [])) 24 → length xs ≡ 24
       → o ≡ inheritedRecord a
-  unfolding inheritedRecord paints.paperInherited
+  unfolding inheritedRecord paperInherited
   inherited-chosen {p} xs h g f l = rw (h, ← g) (whole xs (bareRefusal 0) 0 0 (n ∷ p .start .0 ∷ p .len ∷ []) f l)
+
+pub inherited-higher : {o : List ℕ} {a : Inheritance} (xs : List ℕ) → a ≡ I.Higher → o ≡ paste xs 0 (foundRow 0 (higherNumber ∷ [])) 24 → length xs ≡ 24 → o ≡ inheritedRecord a
+unfolding row inheritedRecord paperInherited
+inherited-higher xs h f l = rw h (whole xs (bareRefusal 0) 0 0 (higherNumber ∷ []) f l)
 
 -- a length of a list, among other records
 pub length-step-value : {o : List ℕ} (xs : List ℕ) (k : ℕ) {x : LengthStep} {l : Length} {z : Number} {p : Place} {m n b : ℕ} → x ≡ S.Value l z p

@@ -32,11 +32,10 @@ use Rattle.angle.specs.declared.AngleAnswer.{AngleAnswer}
 use Rattle.funciri.specs.Paper as links
 use Rattle.funciri.specs.declared.LinkAnswer.{LinkAnswer}
 use Rattle.paint.specs.Paper as paints
-use Rattle.paint.specs.declared.Inheritance.{Inheritance}
 use Rattle.paint.specs.declared.Paint.{Paint}
 use Rattle.paint.specs.declared.PaintAnswer.{PaintAnswer}
-use Rattle.paint.specs.declared.Whose.{Whose}
-use Rattle.paint.specs.declared.Whose.the-variants as O
+use Rattle.inherit.specs.Paper as inherits
+use Rattle.inherit.specs.declared.Inheritance.{Inheritance}
 use Rattle.filter_functions.specs.Paper as filters
 use Rattle.filter_functions.specs.declared.FilterStep.{FilterStep}
 use Rattle.filter_functions.specs.declared.FilterStep.the-variants as T
@@ -137,14 +136,10 @@ paintRow v = foundRow 0 (paintEntries (paints.paperPaint v))
 unfoldable pub paintRecord : PaintAnswer → List ℕ
 paintRecord a = row (paints.paper a .refusal) 0 0 (paintEntries (paints.paper a .result))
 
-unfoldable pub whoseNumber : Whose → ℕ
-whoseNumber O.Own = 1
-whoseNumber O.Parent = 2
-
--- the inherit rule: 9 whose text, of a refusal too; 10 the part's start, 11 its length
+-- the inherit rule: 9 whose text, of a refusal too, or 3 where neither tells; 10 the part's start, 11 its length
 unfoldable pub inheritedRecord : Inheritance → List ℕ
 inheritedRecord a =
-    row (paints.paperInherited a .refusal) 0 0 (whoseNumber (paints.paperInherited a .whose) ∷ linkEntries (paints.paperInherited a .part))
+    row (inherits.paperInherited a .refusal) 0 0 (inherits.paperInherited a .whose ∷ linkEntries (inherits.paperInherited a .part))
 
 -- a shadow's colour: 16 whether there is one, 17 .. 20 the colour
 unfoldable pub shadowColorEntries : ShadowColor → List ℕ

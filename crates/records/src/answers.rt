@@ -11,8 +11,8 @@ use bytes::Part;
 use bytes::Place;
 use color::ColorAnswer;
 use funciri::LinkAnswer;
+use inherit::Inheritance;
 use length::LengthAnswer;
-use paint::Inheritance;
 use paint::Paint;
 use paint::PaintAnswer;
 use paint::PaintFallback;
@@ -121,6 +121,9 @@ pub fn write_paint(out: &mut [u64; 24], answer: PaintAnswer)
     }
 }
 
+// In the place of whose text it is, where neither tells.
+const HIGHER: u64 = 3;
+
 // Whose text it is stands in a refusal's record, too.
 pub fn write_inherited(out: &mut [u64; 24], answer: Inheritance)
     ensures { λ _. ⌜ now (out .exit) ≡ inheritedRecord answer ⌝ }
@@ -135,5 +138,6 @@ pub fn write_inherited(out: &mut [u64; 24], answer: Inheritance)
             let number = entries::whose_number(whose);
             written::three(out, 0, Place(0), number, start.0 as u64, part.len as u64);
         }
+        Inheritance::Higher => written::one(out, 0, Place(0), HIGHER),
     }
 }

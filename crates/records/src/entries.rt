@@ -1,10 +1,11 @@
 // The numbers that stand in a row's entries.
 ghost use mathlib.Core.Bool.{cond};
 ghost use mathlib.Core.Path.{_≡_};
-ghost use Rattle.records.specs.Records.{bitsOf, lengthUnit, angleUnit, whoseNumber};
+ghost use Rattle.records.specs.Records.{bitsOf, lengthUnit, angleUnit};
+ghost use Rattle.inherit.specs.Paper.{whoseNumber};
 use angle::AngleUnit;
+use inherit::Whose;
 use length::LengthUnit;
-use paint::Whose;
 
 // The bits of a float. No number that is read is a NaN, whose bits the language does not give.
 pub fn bits_of(x: f64) -> u64

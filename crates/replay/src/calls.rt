@@ -59,5 +59,5 @@ pub fn write_row(row: &mut [u64; 24], call: u64, text: &[u8], place: Place) {
 
 // The row of the inherit rule.
 pub fn write_inherited(row: &mut [u64; 24], own: &[u8], parent: &[u8]) {
-    records::write_inherited(row, paint::inherited(own, parent));
+    records::write_inherited(row, inherit::inherited(own, parent));
 }

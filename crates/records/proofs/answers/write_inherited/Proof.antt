@@ -1,4 +1,4 @@
-use Rattle.records.proofs.Wholes.{inherited-refused, inherited-chosen}
+use Rattle.records.proofs.Wholes.{inherited-refused, inherited-chosen, inherited-higher}
 use borrow.Author.Needs.{needs}
 use Rattle.records.proofs.answers.write_inherited.Statement.{statement}
 use Rattle.records.proofs.answers.write_inherited.Tie as tie
@@ -14,5 +14,8 @@ write-inherited-spec =
     (λ c. search needs)
     (λ c κs. search needs)
     (λ c κs. search needs)
+    (λ c. search needs)
+    (λ c κs. search needs)
     (λ c. search (inherited-refused, needs))
-    (λ c. search (inherited-chosen, needs)))
+    (λ c. search (inherited-chosen, needs))
+    (λ c. search (inherited-higher, needs)))

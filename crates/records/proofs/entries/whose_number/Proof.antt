@@ -1,4 +1,4 @@
-use Rattle.records.specs.Records.{whoseNumber}
+use Rattle.inherit.specs.Paper.{whoseNumber}
 use borrow.Author.Needs.{needs}
 use Rattle.records.proofs.entries.whose_number.Statement.{statement}
 use Rattle.records.proofs.entries.whose_number.Tie as tie

@@ -1,7 +1,7 @@
 use borrow.Author.Needs.{needs}
-use Rattle.paint.proofs.Steps.{chosen}
-use Rattle.paint.proofs.inherited_part.Statement.{statement}
-use Rattle.paint.proofs.inherited_part.Tie as tie
+use Rattle.inherit.proofs.Steps.{chosen}
+use Rattle.inherit.proofs.inherited_part.Statement.{statement}
+use Rattle.inherit.proofs.inherited_part.Tie as tie
 
 pub inherited-part-spec : {M : Type 1} → statement M
 inherited-part-spec =
@@ -10,11 +10,14 @@ inherited-part-spec =
     (λ c κs. search needs)
     (λ c. search needs)
     (λ c. search needs)
-    (λ c. search needs)
-    (λ c. search needs)
     (λ c κs. search needs)
     (λ c. search needs)
     (λ c κs. search needs)
+    (λ c. search needs)
+    (λ c. search needs)
+    (λ c. search needs)
+    (λ c. search needs)
+    (λ c. search (chosen, needs))
     (λ c. search (chosen, needs))
     (λ c. search (chosen, needs))
     (λ c. search (chosen, needs)))

@@ -5,12 +5,12 @@ use mathlib.Core.Path.{_≡_, refl}
 use denote.Enum.Declared.{tagOf}
 use types.Run.{OneOf, miss}
 use borrow.Author.Needs.{needs}
-use Rattle.paint.specs.Answers.{isInherit}
+use Rattle.inherit.specs.Rule.{isInherit}
 use Rattle.paint.specs.declared.Paint.{Paint}
 use Rattle.paint.specs.declared.Paint.the-variants as P
 use Rattle.paint.proofs.Paint.{the-type}
-use Rattle.paint.proofs.is_inherit.Statement.{statement}
-use Rattle.paint.proofs.is_inherit.Tie as tie
+use Rattle.inherit.proofs.is_inherit.Statement.{statement}
+use Rattle.inherit.proofs.is_inherit.Tie as tie
 
 -- the arm `_`
 abbrev keys : List ℕ
