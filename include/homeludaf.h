@@ -107,7 +107,8 @@ enum homeludaf_fallback {
 
 enum homeludaf_whose {
     HOMELUDAF_WHOSE_OWN = 1,
-    HOMELUDAF_WHOSE_PARENT = 2
+    HOMELUDAF_WHOSE_PARENT = 2,
+    HOMELUDAF_WHOSE_HIGHER = 3             /* neither text tells: ask higher up */
 };
 
 enum homeludaf_filter_kind {
@@ -145,7 +146,7 @@ struct homeludaf_answer {
         struct homeludaf_part link;
         uint64_t written;                              /* bytes, of a colour that was set back */
         struct { uint64_t kind; struct homeludaf_part link; uint64_t fallback; struct homeludaf_rgba color; } paint;
-        struct { uint64_t whose; struct homeludaf_part part; } inherited;
+        struct { uint64_t whose; struct homeludaf_part part; } inherited;      /* enum homeludaf_whose, of a refusal too */
         struct {
             uint64_t kind;                             /* enum homeludaf_filter_kind */
             union {
@@ -196,8 +197,13 @@ void homeludaf_angle(const uint8_t *text, size_t length, struct homeludaf_answer
 void homeludaf_iri(const uint8_t *text, size_t length, struct homeludaf_answer *answer);
 void homeludaf_func_iri(const uint8_t *text, size_t length, struct homeludaf_answer *answer);
 void homeludaf_paint(const uint8_t *text, size_t length, struct homeludaf_answer *answer);
-void homeludaf_inherited(const uint8_t *own, size_t own_length, const uint8_t *parent, size_t parent_length, struct homeludaf_answer *answer);
 void homeludaf_filter_next(const uint8_t *text, size_t length, size_t place, struct homeludaf_answer *answer);
+
+/* Whose text paints an element, its own or its parent's, and which part of it: all that trimming leaves. An own text that is empty after trimming, as that of an
+ * attribute that is not there, or that reads `inherit`, chooses the parent's; a parent's that is not chosen is not looked at. A chosen parent's text that
+ * is itself empty or `inherit` gives HOMELUDAF_WHOSE_HIGHER and an empty part: ask again with an empty own text and with the next ancestor's as the parent's.
+ * Any other text that is judged and is no paint is refused as by homeludaf_paint, and `whose` tells which it is. */
+void homeludaf_inherited(const uint8_t *own, size_t own_length, const uint8_t *parent, size_t parent_length, struct homeludaf_answer *answer);
 
 /* A colour as text, written to the front of `out`, which is not null and lends `length` bytes. As many as the text has are enough; those behind it stay, and
  * a refusal, 16 or 17, writes none. What is written reads back as the colour by homeludaf_color. At most 9 bytes of hex digits, and 20 of a keyword.

@@ -433,7 +433,7 @@ def kinds(case, fields):
     """What tells answers apart: a group, none for a long text, and a kind, first coarsely (the call, the text at hand, whose it is, the number), then by bytes about the stretch and the filter's name."""
     call, text, place = judged(case, fields)
     refused, begin, end = int(fields[0]), int(fields[6]), int(fields[7])
-    coarse = (case.split(" ")[0], call, refused, *(w for w in fields if w in ("own", "parent")))
+    coarse = (case.split(" ")[0], call, refused, *(w for w in fields if w in ("own", "parent", "higher")))
     if len(text) > 200:
         return None, [("long", refused)]
     about = {5: [begin - 1, begin], 6: [begin], 7: [begin], 9: [begin], 10: [end - 1, end], 11: [end], 12: [end - 1, end], 13: [end]}.get(refused, [])

@@ -15,7 +15,7 @@ import examples
 from generate import cases, keywords
 
 FEW, LONG, LARGE = 40, 400, 2
-TOLD = set("none em ex px in cm mm pt pc % deg grad rad turn value end refused inherit currentColor context-fill context-stroke color url own parent"
+TOLD = set("none em ex px in cm mm pt pc % deg grad rad turn value end refused inherit currentColor context-fill context-stroke color url own parent higher"
            " blur drop-shadow brightness contrast grayscale hue-rotate invert opacity sepia saturate".split())
 
 

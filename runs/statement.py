@@ -1,4 +1,4 @@
-"""What the statements apart from the program (p2.py, p3.py, p8.py) have in common: their modes, and how a sample is chosen."""
+"""What the statements apart from the program (p2.py, p3.py, p6.py, p8.py) have in common: their modes, and how a sample is chosen."""
 import collections
 import itertools
 import random

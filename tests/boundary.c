@@ -13,6 +13,8 @@ _Static_assert(offsetof(struct homeludaf_answer, result.angle.degrees_bits) == 1
 _Static_assert(offsetof(struct homeludaf_answer, result.angle.whole) == 12 * sizeof(uint64_t), "whether its number is whole at 12");
 _Static_assert(offsetof(struct homeludaf_answer, result.angle.end) == 13 * sizeof(uint64_t), "where that ended at 13");
 _Static_assert(offsetof(struct homeludaf_answer, result.paint.color) == 13 * sizeof(uint64_t), "a paint's colour at 13");
+_Static_assert(offsetof(struct homeludaf_answer, result.inherited.whose) == 9 * sizeof(uint64_t), "whose text it is at 9");
+_Static_assert(offsetof(struct homeludaf_answer, result.inherited.part) == 10 * sizeof(uint64_t), "its part at 10");
 _Static_assert(offsetof(struct homeludaf_answer, result.filter.value.shadow.colored) == 16 * sizeof(uint64_t), "whether a shadow has a colour at 16");
 _Static_assert(sizeof(((struct homeludaf_answer *)0)->result) == 12 * sizeof(uint64_t), "a result has twelve entries");
 _Static_assert(offsetof(struct homeludaf_answer, from) == 21 * sizeof(uint64_t), "a stretch starts at entry 21");
@@ -175,11 +177,60 @@ static void other_whole_texts(void)
     show("paint", &a);
     expect("paint", a.result.paint.kind == HOMELUDAF_PAINT_LINK && a.result.paint.link.start == 5 && a.result.paint.link.length == 1
                         && a.result.paint.fallback == HOMELUDAF_FALLBACK_COLOR && a.result.paint.color.alpha == 255);
+}
 
-    memset(&a, 0xff, sizeof a);
-    homeludaf_inherited(TEXT(" inherit "), TEXT("  red"), &a);
-    show("inherited", &a);
-    expect("inherited", a.result.inherited.whose == HOMELUDAF_WHOSE_PARENT && a.result.inherited.part.start == 2 && a.result.inherited.part.length == 3);
+/* Whose text is told, and its part; of a refusal the code. */
+static const struct {
+    struct text own, parent;
+    uint64_t code, whose, start, length;
+} inherited_told[] = {
+    { TEXT_OF(" red"), TEXT_OF("\xff"), HOMELUDAF_OK, HOMELUDAF_WHOSE_OWN, 1, 3 },
+    { TEXT_OF(" inherit "), TEXT_OF("  red"), HOMELUDAF_OK, HOMELUDAF_WHOSE_PARENT, 2, 3 },
+    { TEXT_OF(""), TEXT_OF("  red"), HOMELUDAF_OK, HOMELUDAF_WHOSE_PARENT, 2, 3 },
+    { TEXT_OF("\xc2\xa0"), TEXT_OF("none "), HOMELUDAF_OK, HOMELUDAF_WHOSE_PARENT, 0, 4 },
+    { TEXT_OF(""), TEXT_OF(""), HOMELUDAF_OK, HOMELUDAF_WHOSE_HIGHER, 0, 0 },
+    { TEXT_OF(""), TEXT_OF(" \xc2\xa0"), HOMELUDAF_OK, HOMELUDAF_WHOSE_HIGHER, 0, 0 },
+    { TEXT_OF(" "), TEXT_OF("\tinherit"), HOMELUDAF_OK, HOMELUDAF_WHOSE_HIGHER, 0, 0 },
+    { TEXT_OF("inherit"), TEXT_OF("\n"), HOMELUDAF_OK, HOMELUDAF_WHOSE_HIGHER, 0, 0 },
+    { TEXT_OF("inherit"), TEXT_OF(" inherit "), HOMELUDAF_OK, HOMELUDAF_WHOSE_HIGHER, 0, 0 },
+    { TEXT_OF("Inherit"), TEXT_OF("red"), HOMELUDAF_INVALID_VALUE, HOMELUDAF_WHOSE_OWN, 0, 0 },
+    { TEXT_OF("\xe2\x80\x8b"), TEXT_OF("red"), HOMELUDAF_INVALID_VALUE, HOMELUDAF_WHOSE_OWN, 0, 0 },
+    { TEXT_OF(" \xff"), TEXT_OF("red"), HOMELUDAF_NOT_UTF8, HOMELUDAF_WHOSE_OWN, 0, 0 },
+    { TEXT_OF(""), TEXT_OF("x"), HOMELUDAF_INVALID_VALUE, HOMELUDAF_WHOSE_PARENT, 0, 0 },
+    { TEXT_OF(""), TEXT_OF("url(#a) red)"), HOMELUDAF_UNEXPECTED_DATA, HOMELUDAF_WHOSE_PARENT, 0, 0 },
+    { TEXT_OF("inherit"), TEXT_OF("  \xff"), HOMELUDAF_NOT_UTF8, HOMELUDAF_WHOSE_PARENT, 0, 0 },
+};
+
+static void inherited(void)
+{
+    for (size_t i = 0; i < COUNT(inherited_told); i++) {
+        const struct text own = inherited_told[i].own, parent = inherited_told[i].parent;
+        struct homeludaf_answer a;
+        memset(&a, 0xff, sizeof a);
+        homeludaf_inherited((const uint8_t *)own.at, own.length, (const uint8_t *)parent.at, parent.length, &a);
+        show("inherited", &a);
+        expect("inherited", a.code == inherited_told[i].code && a.result.inherited.whose == inherited_told[i].whose);
+        expect("inherited, part", a.result.inherited.part.start == inherited_told[i].start && a.result.inherited.part.length == inherited_told[i].length);
+        expect("inherited, unused entries", unused(&a, 3) && a.state == 0 && a.list_place == 0);
+        expect("inherited, no refusal", a.code != HOMELUDAF_OK || (tells(&a, HOMELUDAF_OK, 0, 0) && a.position == 0 && a.place == 0));
+    }
+}
+
+/* White space is a text like any other until it is too long. */
+static void inherited_long(void)
+{
+    static char spaces[4097];
+    struct homeludaf_answer a;
+    memset(spaces, ' ', sizeof spaces);
+
+    homeludaf_inherited((const uint8_t *)spaces, 4096, TEXT("red"), &a);
+    expect("4,096 spaces", a.code == HOMELUDAF_OK && a.result.inherited.whose == HOMELUDAF_WHOSE_PARENT && a.result.inherited.part.length == 3);
+    homeludaf_inherited((const uint8_t *)spaces, 4097, TEXT("red"), &a);
+    expect("4,097 spaces", a.code == HOMELUDAF_TEXT_TOO_LONG && a.result.inherited.whose == HOMELUDAF_WHOSE_OWN && unused(&a, 1));
+    homeludaf_inherited(TEXT(""), (const uint8_t *)spaces, 4097, &a);
+    expect("the parent's 4,097 spaces", a.code == HOMELUDAF_TEXT_TOO_LONG && a.result.inherited.whose == HOMELUDAF_WHOSE_PARENT && unused(&a, 1));
+    homeludaf_inherited(TEXT("red"), (const uint8_t *)spaces, 4097, &a);
+    expect("a parent that is not looked at", a.code == HOMELUDAF_OK && a.result.inherited.whose == HOMELUDAF_WHOSE_OWN);
 }
 
 static void number_troubles(void)
@@ -603,6 +654,8 @@ int main(void)
 {
     whole_colors();
     other_whole_texts();
+    inherited();
+    inherited_long();
     number_troubles();
     whole_stretches();
     step_stretches();

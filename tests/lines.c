@@ -51,7 +51,7 @@ static const char *const length_units[] = { "none", "em", "ex", "px", "in", "cm"
 static const char *const angle_units[] = { "deg", "grad", "rad", "turn" };
 static const char *const paint_kinds[] = { "-", "none", "inherit", "currentColor", "context-fill", "context-stroke", "color", "url" };
 static const char *const fallbacks[] = { "-", "none", "currentColor", "color" };
-static const char *const owners[] = { "!", "own", "parent" };
+static const char *const owners[] = { "!", "own", "parent", "higher" };
 static const char *const filter_kinds[] = { "!", "blur", "drop-shadow", "brightness", "contrast", "grayscale", "hue-rotate", "invert", "opacity", "sepia", "saturate", "url" };
 
 /* A record that shows which of its entries a call has not filled. */

@@ -45,7 +45,7 @@ fn put_named(out: &mut Line, at: usize, letter: u8, n: u64) -> usize {
         b's' => put_name(out, at, nth_word(b"value end end refused", n)),
         b'u' => put_name(out, at, nth_word(b"none em ex px in cm mm pt pc %", n)),
         b'a' => put_name(out, at, nth_word(b"deg grad rad turn", n)),
-        b'w' => put_name(out, at, nth_word(b"- own parent", n)),
+        b'w' => put_name(out, at, nth_word(b"- own parent higher", n)),
         _ => put_kind(out, at, letter, n),
     }
 }
