@@ -16,6 +16,13 @@ extern "C" {
     fn homeludaf_angle(text: *const u8, length: usize, answer: *mut u64);
     fn homeludaf_iri(text: *const u8, length: usize, answer: *mut u64);
     fn homeludaf_func_iri(text: *const u8, length: usize, answer: *mut u64);
+    fn homeludaf_inherited(
+        own: *const u8,
+        own_length: usize,
+        parent: *const u8,
+        parent_length: usize,
+        answer: *mut u64,
+    );
     fn homeludaf_length_all(
         text: *const u8,
         length: usize,
@@ -102,6 +109,21 @@ calls! {
     angle => homeludaf_angle,
     iri => homeludaf_iri,
     func_iri => homeludaf_func_iri
+}
+
+/// The inherit rule, of an element's own text and its parent's.
+pub(crate) fn inherited<'r>(own: &str, parent: &str, room: &'r mut Room) -> &'r Record {
+    // SAFETY: as in `whole`, of two texts, both of which are lent to be read. They may be the same.
+    unsafe {
+        homeludaf_inherited(
+            own.as_ptr(),
+            own.len(),
+            parent.as_ptr(),
+            parent.len(),
+            room.0.as_mut_ptr().cast(),
+        );
+        room.0.assume_init_ref()
+    }
 }
 
 /// The value of a text, or the record of its refusal.

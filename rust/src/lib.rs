@@ -14,8 +14,9 @@
 //! What svgtypes lacks: `read`, beside each type's `from_str` and each list's `from`, which gives the
 //! whole [`Refusal`] in the place of an error, with the stretch of the text that is refused, and shows
 //! it in a sentence; `written`, of lengths, their lists and angles, which also tells whether the number
-//! was written whole, and where it ended: [`Written`]; and a colour as text, by [`Color::hex`],
-//! [`Color::hex_short`] and [`Color::keyword`].
+//! was written whole, and where it ended: [`Written`]; a colour as text, by [`Color::hex`],
+//! [`Color::hex_short`] and [`Color::keyword`]; and whose text paints an element where its own is
+//! empty or `inherit`, by [`inherited()`] and [`inherited_from`].
 //!
 //! ```
 //! use homeludaf::Color;
@@ -41,6 +42,7 @@ mod color;
 mod error;
 mod filter_functions;
 mod funciri;
+mod inherited;
 mod length;
 mod list;
 mod packed;
@@ -56,6 +58,7 @@ pub use crate::filter_functions::{
     FilterValue, FilterValueListParser, FilterValueListParserError, FilterValueListReader,
 };
 pub use crate::funciri::{FuncIRI, IRI};
+pub use crate::inherited::{inherited, inherited_from, Inherited, InheritedRefusal, InheritedText};
 pub use crate::length::{
     Length, LengthListParser, LengthListReader, LengthUnit, WrittenLengthListReader,
 };

@@ -6,7 +6,8 @@ use std::hint::black_box;
 use std::str::FromStr;
 
 use homeludaf::{
-    Angle, Color, FilterValueListParser, FuncIRI, Length, LengthListParser, Paint, IRI,
+    inherited, inherited_from, Angle, Color, FilterValueListParser, FuncIRI, Length,
+    LengthListParser, Paint, IRI,
 };
 
 /// The system's allocator, counting the calls of this thread.
@@ -58,6 +59,8 @@ fn none_on_the_accepting_path() {
         black_box(IRI::from_str("#a").unwrap());
         black_box(FuncIRI::from_str("url('#a')").unwrap());
         black_box(Paint::from_str("url(#a) Teal").unwrap());
+        black_box(inherited("", " red").unwrap());
+        black_box(inherited_from("", ["inherit", " ", "red"]).unwrap());
         assert_eq!(LengthListParser::from("1 2 3").count(), 3);
         let list = FilterValueListParser::from("drop-shadow(1 2 Red) url(#a) blur()");
         assert_eq!(list.map(Result::unwrap).count(), 3);
@@ -69,6 +72,7 @@ fn none_on_the_accepting_path() {
             black_box(Color::read(text).unwrap_err());
         }
         black_box(FuncIRI::read("uri(#a)").unwrap_err());
+        black_box(inherited("inherit", "url(#a) rgb[1").unwrap_err());
         assert_eq!(LengthListParser::read("1 2 x").count(), 3);
         assert_eq!(FilterValueListParser::read("blur() blur(-1)").count(), 2);
     });
