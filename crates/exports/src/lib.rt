@@ -17,6 +17,7 @@ ghost use Rattle.names.specs.Back.{nameOver};
 ghost use Rattle.paint.specs.Answers as paints;
 ghost use Rattle.set_back.specs.Answers.{hexAnswer, keywordOf, keywordAnswer};
 ghost use Rattle.set_back.specs.Texts.{hexText};
+ghost use Rattle.strict.specs.Answer.{strictFromStr};
 use bytes::Place;
 use color::Color;
 use paint::PaintAnswer;
@@ -28,6 +29,14 @@ pub extern "C" fn homeludaf_color(text: &[u8], answer: &mut [u64; 24])
     ensures { λ _. ⌜ now (answer .exit) ≡ colorRecord (colors.fromStr (now (text .entry))) ⌝ }
 {
     records::write_color(answer, fast_color::from_str(text));
+}
+
+// The strict reading.
+#[no_mangle]
+pub extern "C" fn homeludaf_strict(text: &[u8], answer: &mut [u64; 24])
+    ensures { λ _. ⌜ now (answer .exit) ≡ colorRecord (strictFromStr (now (text .entry))) ⌝ }
+{
+    records::write_color(answer, strict::from_str(text));
 }
 
 // A colour as one number. It comes back in a register, and the record is filled for a refusal alone.

@@ -45,13 +45,13 @@ tested : (t : ℕ → Bool) → T (allFrom t 0 147) → (k : ℕ) → k < length
 tested t h k l = sym (holds-true (t k) (across t 0 147 h k (omega arith) (omega (arith, how-many))))
 
 -- the table that the look-up goes by is the standard's, line by line: the channels and the name
-abbrev ours : ℕ → List ℕ
+abbrev pub ours : ℕ → List ℕ
 ours k = nth k .red ∷ nth k .green ∷ nth k .blue ∷ nth k .name
 
-abbrev theirs : ℕ → List ℕ
+abbrev pub theirs : ℕ → List ℕ
 theirs k = keyword k .red ∷ keyword k .green ∷ keyword k .blue ∷ ascii (keyword k .name)
 
-same-line : (k : ℕ) → k < length keywords → ours k ≡ theirs k
+pub same-line : (k : ℕ) → k < length keywords → ours k ≡ theirs k
 unfolding keywords own.keywords same
 same-line k l = same-eq (ours k) (theirs k) (tested (λ j. same (ours j) (theirs j)) tt k l)
 

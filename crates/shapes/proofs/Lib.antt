@@ -1,0 +1,4 @@
+pub mod Walks
+pub mod Fair
+pub mod Parts
+pub mod Going

@@ -1,0 +1,4 @@
+pub mod Shaped
+pub mod Answers
+pub mod Furthest
+pub mod Worked

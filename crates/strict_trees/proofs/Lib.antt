@@ -1,0 +1,9 @@
+pub mod Takings
+pub mod Spells
+pub mod Forms
+pub mod Hexes
+pub mod Words
+pub mod Openings
+pub mod KeywordTexts
+pub mod Stops
+pub mod Proved

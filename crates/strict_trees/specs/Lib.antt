@@ -1,0 +1,2 @@
+pub mod StrictColors
+pub mod HouseRules
