@@ -15,7 +15,7 @@
  *     6               from the position to the end of the text
  *     7               the byte found, though it may be the first of a longer character
  *     8               the part found
- *     9, 22           empty at the position
+ *     9, 18, 22       empty at the position
  *     10              from the number's first byte to the first that its form cannot take, or to the end of the text
  *     11 to 15        from the first byte of the filter's name to where reading stopped
  *     23, 24          all of the number
@@ -55,6 +55,7 @@ enum homeludaf_code {
     HOMELUDAF_INVALID_URL = 15,
     HOMELUDAF_BUFFER_TOO_SHORT = 16,       /* what is lent has no room for the text */
     HOMELUDAF_NO_KEYWORD = 17,             /* no keyword has the colour, or it is not opaque */
+    HOMELUDAF_NOT_STRICT = 18,             /* a colour, but not as the house rules write one */
     HOMELUDAF_NUMBER_ENDED = 22,           /* the text has ended where a number is to start */
     HOMELUDAF_NUMBER_TOO_LARGE = 23,       /* its digits, joined, make more than 9,007,199,254,740,991 */
     HOMELUDAF_NUMBER_SCALE = 24            /* its exponent less its fraction digits lies outside -22 to 22 */
@@ -198,6 +199,13 @@ void homeludaf_iri(const uint8_t *text, size_t length, struct homeludaf_answer *
 void homeludaf_func_iri(const uint8_t *text, size_t length, struct homeludaf_answer *answer);
 void homeludaf_paint(const uint8_t *text, size_t length, struct homeludaf_answer *answer);
 void homeludaf_filter_next(const uint8_t *text, size_t length, size_t place, struct homeludaf_answer *answer);
+
+/* A colour by the house rules for new artwork, which is as CSS Color 3 writes it: `#` and three or six hex digits; rgb() of three whole numbers or three
+ * percentages; hsl() of a number and two percentages; rgba() and hsla() with a number for alpha besides, always; the 147 keywords and `transparent`. Letter case
+ * is ignored. One comma stands between values; spaces may stand around values and around the whole. Numbers have no exponent, and are clipped, not refused,
+ * outside their range. A text that homeludaf_color refuses is refused by that code and with all that it tells. One that it reads has the same channels
+ * here, or, where it is not written so, the code 18 and the position of the first character, or of the end, at which no such text, however long, can go on. */
+void homeludaf_strict(const uint8_t *text, size_t length, struct homeludaf_answer *answer);
 
 /* Whose text paints an element, its own or its parent's, and which part of it: all that trimming leaves. An own text that is empty after trimming, as that of an
  * attribute that is not there, or that reads `inherit`, chooses the parent's; a parent's that is not chosen is not looked at. A chosen parent's text that

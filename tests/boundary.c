@@ -254,6 +254,97 @@ static void number_troubles(void)
     }
 }
 
+/* Texts that homeludaf_color reads: with the same channels by the house rules, or the position at which these refuse it. */
+static const struct {
+    struct text text;
+    uint64_t position;
+    struct homeludaf_rgba color;
+} house_told[] = {
+    { TEXT_OF(" #aBc "), 0, { 170, 187, 204, 255 } },
+    { TEXT_OF("#112233"), 0, { 17, 34, 51, 255 } },
+    { TEXT_OF("Red"), 0, { 255, 0, 0, 255 } },
+    { TEXT_OF("transparent"), 0, { 0, 0, 0, 0 } },
+    { TEXT_OF("RGB( 1 ,+2,\t-3 )"), 0, { 1, 2, 0, 255 } },
+    { TEXT_OF("rgb(20%,100.0%,.0%)"), 0, { 51, 255, 0, 255 } },
+    { TEXT_OF("rgba(1,2,3,.5)"), 0, { 1, 2, 3, 128 } },
+    { TEXT_OF("hsl(120,100%,50%)"), 0, { 0, 255, 0, 255 } },
+    { TEXT_OF("hsla(120,100%,50%,2)"), 0, { 0, 255, 0, 255 } },
+    { TEXT_OF("#1234"), 6, { 17, 34, 51, 68 } },
+    { TEXT_OF(" #1234 "), 7, { 17, 34, 51, 68 } },
+    { TEXT_OF("#12345678"), 8, { 18, 52, 86, 120 } },
+    { TEXT_OF("rgb(1.0,2,3)"), 8, { 1, 2, 3, 255 } },
+    { TEXT_OF("rgb(1,2.0,3)"), 8, { 1, 2, 3, 255 } },
+    { TEXT_OF("rgb(1 2 3)"), 7, { 1, 2, 3, 255 } },
+    { TEXT_OF("rgb(1e0,2,3)"), 6, { 1, 2, 3, 255 } },
+    { TEXT_OF("rgb(1,2,3,)"), 10, { 1, 2, 3, 255 } },
+    { TEXT_OF("rgb(1,2,3,1)"), 10, { 1, 2, 3, 255 } },
+    { TEXT_OF("rgb(20%,50,20%)"), 11, { 51, 255, 51, 255 } },
+    { TEXT_OF("rgba(1,2,3)"), 11, { 1, 2, 3, 255 } },
+    { TEXT_OF("hsl(120,100,50)"), 12, { 255, 255, 255, 255 } },
+};
+
+static int same_color(struct homeludaf_rgba a, struct homeludaf_rgba b)
+{
+    return a.red == b.red && a.green == b.green && a.blue == b.blue && a.alpha == b.alpha;
+}
+
+static void house_rules(void)
+{
+    static const struct homeludaf_rgba none = { 0, 0, 0, 0 };
+    for (size_t i = 0; i < COUNT(house_told); i++) {
+        const uint8_t *at = (const uint8_t *)house_told[i].text.at;
+        const uint64_t position = house_told[i].position, from = position == 0 ? 0 : position - 1;
+        struct homeludaf_answer a;
+        memset(&a, 0xff, sizeof a);
+        homeludaf_color(at, house_told[i].text.length, &a);
+        expect("color, before the house rules", a.code == HOMELUDAF_OK && same_color(a.result.color, house_told[i].color));
+        memset(&a, 0xff, sizeof a);
+        homeludaf_strict(at, house_told[i].text.length, &a);
+        show("strict", &a);
+        expect(house_told[i].text.at, tells(&a, position == 0 ? HOMELUDAF_OK : HOMELUDAF_NOT_STRICT, from, from) && a.position == position
+                                          && same_color(a.result.color, position == 0 ? house_told[i].color : none));
+        expect("strict, unused entries", unused(&a, 4) && a.place == 0 && a.found == 0 && a.wanted == 0 && a.part.start == 0 && a.part.length == 0
+                                             && a.state == HOMELUDAF_STATE_VALUE && a.list_place == 0);
+    }
+}
+
+/* What homeludaf_color refuses has the same record by the house rules, all 24 entries. */
+static void house_refusals(void)
+{
+    static const struct text texts[] = {
+        TEXT_OF(""), TEXT_OF("#12345"), TEXT_OF("currentColor"), TEXT_OF("#1234)"), TEXT_OF("rgb[1"), TEXT_OF("rgb(1,2%,3)"), TEXT_OF("rgb(5.,0,0)"), TEXT_OF("rgb(1.0,2,3\xff"),
+        TEXT_OF("rgb(1.0, "), TEXT_OF("rgb(9007199254740992,0,0)"), TEXT_OF("rgb(1e23,0,0)"),
+    };
+    static const uint64_t codes[] = { 4, 5, 5, 6, 7, 9, 10, 2, 22, 23, 24 };
+    _Static_assert(COUNT(texts) == COUNT(codes), "a code for each text");
+    for (size_t i = 0; i < COUNT(texts); i++) {
+        struct homeludaf_answer a, b;
+        memset(&a, 0xff, sizeof a);
+        memset(&b, 0xa5, sizeof b);
+        homeludaf_color((const uint8_t *)texts[i].at, texts[i].length, &a);
+        homeludaf_strict((const uint8_t *)texts[i].at, texts[i].length, &b);
+        expect(texts[i].at, b.code == codes[i] && memcmp(&a, &b, sizeof a) == 0);
+    }
+}
+
+/* The limit is no reason to stop: in 4,096 bytes `#1234` can go on, and in 4,097 nothing is read. */
+static void house_limit(void)
+{
+    static char wide[4097];
+    struct homeludaf_answer a;
+    memset(wide, ' ', sizeof wide);
+    memcpy(wide + 4091, "#1234", 5);
+
+    memset(&a, 0xff, sizeof a);
+    homeludaf_strict((const uint8_t *)wide, 4096, &a);
+    show("strict at the limit", &a);
+    expect("strict at the limit", tells(&a, HOMELUDAF_NOT_STRICT, 4096, 4096) && a.position == 4097 && unused(&a, 0));
+
+    memset(&a, 0xff, sizeof a);
+    homeludaf_strict((const uint8_t *)wide, 4097, &a);
+    expect("strict past the limit", tells(&a, HOMELUDAF_TEXT_TOO_LONG, 0, 0) && a.position == 0 && unused(&a, 0));
+}
+
 /* The stretch of each refusal that a whole text can have, and of values none. */
 static const struct {
     whole_call *call;
@@ -657,6 +748,9 @@ int main(void)
     inherited();
     inherited_long();
     number_troubles();
+    house_rules();
+    house_refusals();
+    house_limit();
     whole_stretches();
     step_stretches();
     other_stretches();

@@ -2,7 +2,7 @@
  *
  *     lines base        the cases of the program `replay`, with the same answers: 9 for 22, 10 for 23 and 24
  *     lines             these with every refusal's own number and its stretch and with how a length's and an angle's number was written, and
- *                       the writers of colours (document 02)
+ *                       the strict reading and the writers of colours (document 02)
  *
  * A case is a call and its operands, one space between: a text is its bytes, two lower-case hex digits each, `-` for none; a number is decimal.
  * A line that is no case gets the answer `?` alone. */
@@ -180,6 +180,14 @@ static void answer_color(const struct operands *o)
     put_channels(a.result.color);
 }
 
+static void answer_strict(const struct operands *o)
+{
+    struct homeludaf_answer a = unfilled();
+    homeludaf_strict(o->texts[0].at, o->texts[0].length, &a);
+    put_refusal(&a, o->texts[0]);
+    put_channels(a.result.color);
+}
+
 static void answer_length(const struct operands *o)
 {
     struct homeludaf_answer a = unfilled();
@@ -333,6 +341,7 @@ static const struct call base_calls[] = {
 };
 
 static const struct call later_calls[] = {
+    { "strict", "t", answer_strict },
     { "hex", "fscccc", answer_hex },
     { "keyword", "scccc", answer_keyword },
 };
