@@ -12,6 +12,7 @@ use crate::Color;
 extern "C" {
     fn homeludaf_color_packed(text: *const u8, length: usize, answer: *mut u64) -> u64;
     fn homeludaf_paint_packed(text: *const u8, length: usize, answer: *mut u64) -> u64;
+    fn homeludaf_strict(text: *const u8, length: usize, answer: *mut u64);
     fn homeludaf_length(text: *const u8, length: usize, answer: *mut u64);
     fn homeludaf_angle(text: *const u8, length: usize, answer: *mut u64);
     fn homeludaf_iri(text: *const u8, length: usize, answer: *mut u64);
@@ -105,6 +106,7 @@ macro_rules! calls {
 }
 
 calls! {
+    strict => homeludaf_strict,
     length => homeludaf_length,
     angle => homeludaf_angle,
     iri => homeludaf_iri,

@@ -4,7 +4,7 @@ use std::fmt;
 use std::ops::Deref;
 
 use crate::boundary::{self, Room, Text};
-use crate::record::Record;
+use crate::record::{Record, RESULT};
 use crate::{Error, Refusal};
 
 /// Representation of the [`<color>`] type.
@@ -87,6 +87,49 @@ impl Color {
     #[inline]
     pub fn read(text: &str) -> Result<Self, Refusal> {
         Self::parse(text, Refusal::of)
+    }
+
+    /// Parses by the house rules for new artwork: a colour as [CSS Color 3] writes it.
+    ///
+    /// That is `#` and three or six hex digits; `rgb()` of three whole numbers or three percentages;
+    /// `hsl()` of a number and two percentages; `rgba()` and `hsla()` with a number for alpha besides,
+    /// always; the 147 keywords and `transparent`. Letter case is ignored. One comma stands between
+    /// values; spaces may stand around values and around the whole. A number has no exponent; outside
+    /// its range it is clipped and not refused.
+    ///
+    /// What it accepts, [`Color::read`] accepts with the same channels. What `read` refuses, it refuses
+    /// by the same [`Refusal`]. What `read` accepts and the house rules do not is refused by 18, at the
+    /// first character, or the end, at which no such text, however long, can go on.
+    ///
+    /// ```
+    /// use homeludaf::Color;
+    ///
+    /// assert_eq!(Color::read_strict(" RGB( 1, 2, 300 )"), Ok(Color::new_rgb(1, 2, 255)));
+    ///
+    /// // `rgb(1.0%` could have gone on; with a comma there is no such text.
+    /// let refusal = Color::read_strict("rgb(1.0,2,3)").unwrap_err();
+    /// assert_eq!((refusal.number, refusal.position, refusal.stretch()), (18, 8, 7..7));
+    /// assert_eq!(
+    ///     refusal.to_string(),
+    ///     "the colour is not written by the house rules: it cannot go on so at character 8"
+    /// );
+    ///
+    /// // Four digits could have become six.
+    /// assert_eq!(Color::read_strict("#1234").unwrap_err().position, 6);
+    /// assert_eq!(Color::read("#1234"), Ok(Color::new_rgba(17, 34, 51, 68)));
+    /// ```
+    ///
+    /// svgtypes has no such reading, so there is no name of its to keep: this one is `read`'s, whose
+    /// refusals it has. There is none with svgtypes' [`Error`], which has no room for an 18.
+    ///
+    /// [CSS Color 3]: https://www.w3.org/TR/css-color-3/
+    pub fn read_strict(text: &str) -> Result<Self, Refusal> {
+        let mut room = Room::new();
+        let record = boundary::strict(text, &mut room);
+        if record.is_refused() {
+            return Err(Refusal::of(record, text));
+        }
+        Ok(record.color(RESULT))
     }
 
     #[inline(always)]

@@ -25,6 +25,7 @@ pub(crate) const LINK_START: &str = "url(";
 /// | 13 | [`FilterValueListParserError::InvalidAngle`] | the same |
 /// | 14 | [`FilterValueListParserError::MissingDropShadowOffset`] | the same |
 /// | 15 | [`FilterValueListParserError::InvalidUrl`] | the same |
+/// | 18 | a colour is not written by the house rules, which [`Color::read_strict`] keeps to | empty, where no such text can go on |
 /// | 22 | no number starts here, since the text has ended: [`Error::InvalidNumber`], too | empty, here |
 /// | 23 | a number's digits, joined, make more than 9,007,199,254,740,991 | all of the number |
 /// | 24 | a number's scale, its exponent less its fraction digits, lies outside -22 to 22 | all of the number |
@@ -45,6 +46,7 @@ pub(crate) const LINK_START: &str = "url(";
 /// assert_eq!(text.get(refusal.stretch()), Some("1."));
 /// ```
 ///
+/// [`Color::read_strict`]: crate::Color::read_strict
 /// [`Error::UnexpectedEndOfStream`]: crate::Error::UnexpectedEndOfStream
 /// [`Error::InvalidValue`]: crate::Error::InvalidValue
 /// [`Error::UnexpectedData`]: crate::Error::UnexpectedData
@@ -227,6 +229,10 @@ impl fmt::Display for Refusal {
                 "the two offsets of a shadow are wanted at character {at}"
             ),
             15 => write!(f, "the link at character {at} is empty"),
+            18 => write!(
+                f,
+                "the colour is not written by the house rules: it cannot go on so at character {at}"
+            ),
             22 => write!(
                 f,
                 "a number is wanted at character {at}, where the text has ended"
@@ -266,6 +272,7 @@ mod tests {
     #[test]
     fn every_number_has_its_sentence() {
         let said: Vec<String> = (1..=15)
+            .chain([18])
             .chain(22..=24)
             .map(|number| Refusal::at(number, 7).to_string())
             .collect();
@@ -274,7 +281,7 @@ mod tests {
             assert!(!said[..i].contains(sentence), "twice: {sentence}");
         }
         let positions = said.iter().filter(|s| s.contains("character 7")).count();
-        assert_eq!(positions, 13, "6 to 15 and 22 to 24 tell a position");
+        assert_eq!(positions, 14, "6 to 15, 18 and 22 to 24 tell a position");
         assert!(Refusal::at(0, 0).to_string().contains("no reader gives"));
     }
 
