@@ -1,5 +1,5 @@
 -- A text cut where a run of one class of bytes ends: the run as things of a grammar.
-use Prim.Native.Nat.{ℕ, _+_, _-_, _*_}
+use Prim.Native.Nat.{ℕ, _+_, _-_}
 use mathlib.Core.Bool.{Bool, true, false}
 use mathlib.Core.List.{List, [], _∷_, _++_, map}
 use mathlib.Core.Path.{_≡_, refl, sym}
@@ -9,9 +9,7 @@ use Rattle.bytes.specs.Bytes.{within, isDigit, isSpace}
 use Rattle.bytes.specs.Scan.{run}
 use Rattle.bytes.proofs.Ranges.{either, within-ge, within-le}
 use Rattle.bytes.proofs.Wording.{space-case}
-use Rattle.numbers.specs.Digits.{value}
-use Rattle.standards.specs.CssValues3.{Blank, blank, space, tab, line-feed, return, Digit, numeral, numerals, spelt}
-use Rattle.standards.proofs.Numbers.{numeral-is}
+use Rattle.standards.specs.CssValues3.{Blank, blank, space, tab, line-feed, return, Digit, numeral}
 
 module _ {A : Type 0} (p : ℕ → Bool) (f : A → ℕ) where
   pub record Cut (l : List ℕ) : Type 0 where
@@ -38,7 +36,7 @@ blank-of b e = space-case (λ b. (x : Blank) × (blank x ≡ b)) b (space, refl)
 pub spaces : (l : List ℕ) → Cut isSpace blank l
 spaces l = cut isSpace blank refl blank-of l
 
--- digits, and the number that they spell
+-- digits
 digit-of : (b : ℕ) → isDigit b ≡ true → (x : Digit) × (numeral x ≡ b)
 unfolding numeral
 digit-of b e = (record { is = b - 48; small = omega (arith, within-le 48 57 b (sym e), within-ge 48 57 b (sym e)) }, omega (arith, within-ge 48 57 b (sym e)))
@@ -46,11 +44,3 @@ digit-of b e = (record { is = b - 48; small = omega (arith, within-le 48 57 b (s
 pub figures : (l : List ℕ) → Cut isDigit numeral l
 unfolding within
 figures l = cut isDigit numeral refl digit-of l
-
-pub spelt-is : (a : ℕ) (ds : List Digit) (rest : List ℕ) → isDigit (getD rest 0 0) ≡ false → value a (numerals ds ++ rest) ≡ spelt a ds
-unfolding value spelt
-spelt-is a [] [] e = refl
-spelt-is a [] (x ∷ xs) e = simp e
-spelt-is a (d ∷ ds) rest e =
-    let n : numeral d - 48 ≡ d .is = unfold numeral in omega arith in
-    simp (numeral-is d, n, spelt-is (a * 10 + d .is) ds rest e)

@@ -37,12 +37,14 @@ use Rattle.standards.specs.Ieee754.{double}
 use Rattle.standards.specs.CssValues3.{whole, isMinus, joined, Number, number, exactly, isInteger, percentage, AngleUnit, deg, grad, rad, turn, angleUnit}
 use Rattle.standards.specs.Domain.{InDomain}
 use Rattle.standards.specs.FilterEffects1.{Simple, brightness, contrast, grayscale, invert, opacity, saturate, sepia, simpleName, name}
+use Rattle.standards.specs.Answers.{Apart}
 use Rattle.standards.proofs.Cursors.{blanks-scan, curr-is, curr-not, spaced-past}
+use Rattle.standards.proofs.Numbers.{number-at}
+use Rattle.standards.proofs.Reading.{ends-percent, ends-apart}
 use Rattle.standards.proofs.Runs.{no-space, number-first}
 use Rattle.standards.proofs.Signs.{double-sign, hundredth-sign}
-use Rattle.only.proofs.Apart.{number-read}
 use Rattle.only.proofs.Nonzero.{not-zero}
-use Rattle.only.specs.Only.{Apart, Opens, nameAt, heldAt, Refuses}
+use Rattle.only.specs.Only.{Opens, nameAt, heldAt, Refuses}
 use Rattle.only.proofs.Steps.{refuses, Reads, at-held, refused}
 
 -- the names
@@ -84,7 +86,7 @@ module _ (s : List ℕ) (name at : ℕ) (t : Number) (rest : List ℕ) (d : InDo
   end = at + (0 + length (number t))
 
   read : parseNumber s at ≡ N.Value (record { value = double (exactly t); whole = isInteger t; end = place end }) (place end)
-  read = number-read s at [] t rest d e h
+  read = number-at s at [] t rest d e h
 
   blur-negative : isMinus (t .signed) ≡ true → parseBlur s name at ≡ F.Refused (troubleAt T.NegativeValue at name (end + unitWidth (unitAt s end)))
   unfolding parseBlur parseFilterPositiveLength parseLength bind
@@ -102,10 +104,6 @@ module _ (s : List ℕ) (name at : ℕ) (t : Number) (rest : List ℕ) (d : InDo
   hue-unmarked : eq (double (exactly t)) d0 ≡ false → parseUnit s end ≡ A.Missing → parseHueRotate s name at ≡ F.Refused (troubleAt T.InvalidAngle at name end)
   unfolding parseHueRotate parseFilterAngle bind
   hue-unmarked z u = simp (open-still, blanks-scan s at [] (number t ++ rest) h (number-unspaced t rest) ∙ add-zero at, read, u, z)
-
-percent-apart : (t : Number) (rest : List ℕ) → Apart t (37 ∷ rest)
-unfolding within
-percent-apart t rest = record { digit = refl; letter = λ e. refl; dot = λ e. refl }
 
 percent-there : (s : List ℕ) (i : ℕ) (rest : List ℕ) → drop i s ≡ 37 ∷ rest → unitAt s i ≡ U.Percent
 unfolding unitAt startsWith
@@ -171,7 +169,7 @@ percentage-blur {s} {i} t rest o d m =
     let h : drop at s ≡ number t ++ after = at-held o blur-reads ∙ q in
     let p : drop (at + (0 + length (number t))) s ≡ after = spaced-past s at [] (number t) after h in
     refuses s i T.PercentageValue at (nameAt o) _ refl (o .stands .admitted)
-    (refused o blur-reads sp _ (blur-percentage s (nameAt o) at t after d (percent-apart t rest) h m (percent-there s _ rest p)))
+    (refused o blur-reads sp _ (blur-percentage s (nameAt o) at t after d (ends-apart t (ends-percent rest)) h m (percent-there s _ rest p)))
 
 -- THEOREM. drop-shadow() is refused by 14
 pub empty-shadow : {s : List ℕ} {i : ℕ} (rest : List ℕ) (o : Opens s i (ascii "drop-shadow") (41 ∷ rest)) → Refuses s i 14 (calcCharPosAt s (heldAt o))

@@ -1,5 +1,4 @@
 pub mod Cuts
-pub mod Apart
 pub mod Parts
 pub mod Longest
 pub mod Numbers

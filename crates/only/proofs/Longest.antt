@@ -14,8 +14,7 @@ use Rattle.numbers.specs.Number.{afterSign, mantissaDot, mantissaAt, exponentFr
 use Rattle.numbers.proofs.Values.{sign-goes}
 use Rattle.standards.specs.CssValues3.{Digit, numerals, Sign, sign, Digits, whole, dotted, digits, Exponent, absent, small, capital, exponent, Number, number}
 use Rattle.standards.proofs.Cursors.{past, scan-on}
-use Rattle.standards.proofs.Numbers.{numeral-is}
-use Rattle.only.proofs.Apart.{begins, sign-is, dotted-apart, mantissa-is, raised, exponent-opens}
+use Rattle.standards.proofs.Numbers.{numeral-is, begins, sign-is, dotted-apart, mantissa-is, raised, exponent-opens}
 
 run-least : (ds : List Digit) (r : List ℕ) → length ds ≤ run isDigit (numerals ds ++ r)
 unfolding run

@@ -24,15 +24,12 @@ use Rattle.angle.specs.declared.AngleAnswer.the-variants as RA
 use Rattle.standards.specs.Ieee754.{double}
 use Rattle.standards.specs.CssValues3.{blanks, Number, number}
 use Rattle.standards.specs.Svg2.{lengthText, angleText, ratio}
-use Rattle.standards.specs.Answers.{Ends, numberOf, lengthOf, angleOf}
+use Rattle.standards.specs.Answers.{numberOf, lengthOf, angleOf}
 use Rattle.standards.proofs.Whole.{documents}
-use Rattle.only.specs.Only.{Apart, limit, LengthText, AngleText}
+use Rattle.only.specs.Only.{limit, LengthText, AngleText}
 use Rattle.only.proofs.Measures.{length-shape, angle-shape}
 
--- What crates/standards asks of what follows a number is enough, and more than need be: of `.0.` the number `.0` is read, with `.` after it
-pub ends-apart : {rest : List ℕ} (t : Number) → Ends rest → Apart t rest
-ends-apart t e = record { digit = e .digit; letter = λ q. e .letter; dot = λ q. e .dot }
-
+-- What crates/standards asks of what follows a number, Ends, is more than need be: of `.0.` the number `.0` is read, with `.` after it
 pub read-before-dot : parseNumber (ascii ".0.") 0 ≡ N.Value (record { value = double (ratio 0 1); whole = false; end = place 2 }) (place 2)
 unfolding parseNumber bind numberFrom afterSign mantissaAt mantissaDot exponentAt scaleOf valueOf scaled finished scan run value within powerOf powerBits double round ofInt ofBits mul div
 read-before-dot = refl

@@ -21,10 +21,11 @@ use Rattle.numbers.proofs.Values.{values-known, Judged, mantissaOf, exponentOf,
 use Rattle.standards.specs.CssValues3 as Css
 use Rattle.standards.specs.CssValues3.{blank, blanks, sign, digits, exponent, absent, small, capital, number, joined, fraction-digits, power, falls, isWhole, isAbsent, isInteger}
 use Rattle.standards.specs.Domain.{Near, InDomain}
+use Rattle.standards.specs.Answers.{Apart}
 use Rattle.standards.proofs.Cursors.{byte-here, past, blanks-past, scan-on}
-use Rattle.only.specs.Only.{Apart, NumberThere}
+use Rattle.standards.proofs.Numbers.{mantissa-is, exponent-is, number-at, reach}
+use Rattle.only.specs.Only.{NumberThere}
 use Rattle.only.proofs.Cuts.{Cut, spaces}
-use Rattle.only.proofs.Apart.{mantissa-is, exponent-is, number-read, reach}
 use Rattle.only.proofs.Parts.{Signed, signed-at, Mantissed, mantissa-at, Raised, raised-at}
 use Rattle.only.proofs.Longest.{reaches}
 
@@ -143,7 +144,7 @@ module _ (s : List ℕ) (i : ℕ) (n : Number) (p : Place) (h : parseNumber s i 
   -- THEOREM. What is read as a number is one
   pub number-there : NumberThere s i n p
   number-there =
-      let r = same-number (sym h ∙ number-read s i (cut-here .taken) tree (x .rest) domain apart text) in
+      let r = same-number (sym h ∙ number-at s i (cut-here .taken) tree (x .rest) domain apart text) in
       record {
         before = cut-here .taken;
         tree = tree;
@@ -160,7 +161,7 @@ module _ (s : List ℕ) (i : ℕ) (n : Number) (p : Place) (r : NumberThere s i 
   -- THEOREM. It is read
   pub there-read : parseNumber s i ≡ N.Value n p
   there-read =
-      number-read s i (r .before) (r .tree) (r .rest) (r .domain) (r .apart) (r .text) ∙ rw (← r .meant, ← r .after) refl
+      number-at s i (r .before) (r .tree) (r .rest) (r .domain) (r .apart) (r .text) ∙ rw (← r .meant, ← r .after) refl
 
   -- THEOREM. It is the longest that begins there
   pub longest : (t : Css.Number) (rest : List ℕ) → number t ++ rest ≡ number (r .tree) ++ r .rest → length (number t) ≤ length (number (r .tree))

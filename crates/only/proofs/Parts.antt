@@ -13,8 +13,8 @@ use Rattle.bytes.proofs.Ranges.{either}
 use Rattle.numbers.specs.Number.{afterSign, mantissaDot, mantissaAt, exponentFrom, exponentAt}
 use Rattle.standards.specs.CssValues3.{Digit, numerals, Sign, unsigned, plus, minus, sign, Digits, whole, dotted, digits, Exponent, absent, small, capital, exponent, isWhole, isAbsent}
 use Rattle.standards.proofs.Cursors.{byte-here, byte-on, drop-on}
+use Rattle.standards.proofs.Numbers.{figures-are}
 use Rattle.only.proofs.Cuts.{figures}
-use Rattle.only.proofs.Apart.{figures-are}
 
 -- a byte that is not 0 stands in the text
 headed : (s : List ℕ) (i c : ℕ) → 0 < c → getD s i 0 ≡ c → drop i s ≡ c ∷ drop (i + 1) s

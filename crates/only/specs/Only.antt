@@ -2,12 +2,11 @@
 -- disallows is refused. The trees and their texts are those of crates/standards/specs, with their white space: a form feed, a comment or an escape, which CSS takes, is a byte as any other here.
 -- Nothing is said where svgtypes reads more than a document has (docs/DIFFERENCES.md).
 use Prim.Native.Nat.{ℕ, _+_, _≤_}
-use mathlib.Core.Bool.{true, false, _||_, _&&_, not}
+use mathlib.Core.Bool.{true, false}
 use mathlib.Core.List.{List, [], _∷_, _++_, map}
 use mathlib.Core.Path.{_≡_}
-use lib.Dec.{eqb}
-use lib.ListN.{length, getD, drop}
-use Rattle.bytes.specs.Bytes.{isDigit, isAsciiIdent}
+use lib.ListN.{length, drop}
+use Rattle.bytes.specs.Bytes.{isAsciiIdent}
 use Rattle.bytes.specs.Moves.{place}
 use Rattle.bytes.specs.declared.Place.{Place}
 use Rattle.utf8.specs.Characters.{calcCharPosAt}
@@ -29,21 +28,15 @@ use Rattle.color.specs.declared.ColorAnswer.the-variants as ColorAnswer
 use Rattle.filter_functions.specs.Filters.{nextFilter}
 use Rattle.filter_functions.specs.declared.FilterStep.the-variants as Step
 use Rattle.standards.specs.Written.{ascii}
-use Rattle.standards.specs.CssValues3.{Blank, blank, blanks, isMinus, joined, Number, number, isAbsent, isInteger, percentage, AngleUnit, angleUnit}
+use Rattle.standards.specs.CssValues3.{Blank, blank, blanks, isMinus, joined, Number, number, percentage, AngleUnit, angleUnit}
 use Rattle.standards.specs.Domain.{InDomain}
-use Rattle.standards.specs.Answers.{numberOf, lengthOf, angleOf, colorOf}
+use Rattle.standards.specs.Answers.{Apart, numberOf, lengthOf, angleOf, colorOf}
 use Rattle.standards.specs.CssColor4.{HexColor, hexText, channels}
 use Rattle.standards.specs.Colors.{Colour, colour}
 use Rattle.standards.specs.Svg2.{lengthText, angleText}
 use Rattle.standards.specs.FilterEffects1.{Simple, simpleName, Content, name}
 
--- What follows the number t does not go on with it: no digit; where no exponent is written no e or E (101, 69), but that of `em` and `ex` (109, 120); after an <integer> no dot (46)
-pub record Apart (t : Number) (rest : List ℕ) : Type 0 where
-  pub digit : isDigit (getD rest 0 0) ≡ false
-  pub letter : isAbsent (t .exponent-of) ≡ true → ((eqb (getD rest 0 0) 101 || eqb (getD rest 0 0) 69) && not (eqb (getD rest 1 0) 109 || eqb (getD rest 1 0) 120)) ≡ false
-  pub dot : isInteger t ≡ true → eqb (getD rest 0 0) 46 ≡ false
-
--- CSS Values 3, section 4, <number>. From place i of s up to p stand white space and a number of the grammar, and n is what crates/standards calls its number: the double nearest to it, whether it is written as an <integer>, and its end
+-- CSS Values 3, section 4, <number>. From place i of s up to p stand white space and a number of the grammar, what follows does not go on with it, and n is what crates/standards calls its number: the double nearest to it, whether it is written as an <integer>, and its end
 pub record NumberThere (s : List ℕ) (i : ℕ) (n : Read.Number) (p : Place) : Type 0 where
   pub before : List Blank
   pub tree : Number

@@ -1,4 +1,4 @@
--- Every number of CSS Values 3 that keeps to document 01's domain is read as the double nearest to it, with its end.
+-- Every number of CSS Values 3 that keeps to document 01's domain, and with which what follows does not go on, is read as the double nearest to it, with its end.
 use Prim.Native.Nat.{ℕ, suc, _+_, _-_, _*_, _≤_, _<_}
 use mathlib.Core.Bool.{Bool, true, false, _||_, _&&_, not}
 use mathlib.Core.List.{List, [], _∷_, _++_, append-assoc}
@@ -7,211 +7,188 @@ use native.Mathlib.Omega.{arith}
 use native.Mathlib.Nat.{zero-add}
 use borrow.Author.Tests.{ne-eqb, lt-ltb, le-leb, lt-leb}
 use lib.Dec.{eqb, leb, lit≤}
-use lib.Ieee.{Float, binary64, div}
+use lib.Ieee.{Float}
 use lib.ListN.{length, getD, drop, length-append, length-map}
-use lib.Seq.{drop-append-seam}
-use Rattle.bytes.specs.Bytes.{isDigit, isSpace, within}
-use Rattle.bytes.specs.Moves.{place}
+use Rattle.bytes.specs.Bytes.{within, isDigit, isSign, isSpace}
 use Rattle.bytes.specs.Flow.{bind}
+use Rattle.bytes.specs.Moves.{place}
 use Rattle.bytes.specs.Scan.{scan}
 use Rattle.bytes.proofs.Ranges.{either, within-yes}
 use Rattle.numbers.specs.Decimal.{written, nearest}
 use Rattle.numbers.specs.Digits.{value, cap}
-use Rattle.numbers.specs.Number.{startsNumber, afterSign, mantissaAt, mantissaDot, exponentAt, exponentFrom, scaleOf, valueOf, scaled, finished, numberFrom, parseNumber, parseNumberOrPercent}
-use Rattle.numbers.specs.Powers.{hundred}
+use Rattle.numbers.specs.Number.{startsNumber, afterSign, mantissaDot, mantissaAt, exponentFrom, exponentAt, scaleOf, valueOf, scaled, finished, numberFrom, parseNumber, parseNumberOrPercent}
 use Rattle.numbers.specs.declared.NumberRead.the-variants as N
 use Rattle.numbers.proofs.Nearest.{number-nearest}
 use Rattle.standards.specs.Ieee754.{double}
 use Rattle.standards.specs.CssValues3.{Blank, blanks, Digit, numeral, numerals, spelt, Sign, unsigned, plus, minus, sign, isMinus, Digits, whole, dotted, digits, Exponent, absent, small, capital, exponent, Number, number, joined, fraction-digits, power, falls, exactly, isWhole, isAbsent, isInteger}
 use Rattle.standards.specs.Domain.{Near, InDomain}
-use Rattle.standards.specs.Answers.{Ends}
-use Rattle.standards.proofs.Reading.{ends-percent, NumbersRead}
-use Rattle.standards.proofs.Runs.{no-space}
-use Rattle.standards.proofs.Cursors.{byte-on, byte-here, drop-on, inside, curr-is, past, map-past, map-scan, blanks-past, blanks-scan, spaced-past}
+use Rattle.standards.specs.Answers.{Apart, numberOf, portion}
+use Rattle.standards.proofs.Reading.{ends-percent, ends-apart, NumbersRead}
+use Rattle.standards.proofs.Runs.{no-space, number-first, number-some}
+use Rattle.standards.proofs.Cursors.{byte-here, byte-on, drop-on, inside, curr-is, past, map-past, map-scan, blanks-past, blanks-scan, spaced-past}
 
 pub numeral-is : (d : Digit) → isDigit (numeral d) ≡ true
 unfolding numeral
 numeral-is d = sym (within-yes 48 57 (48 + d .is) (omega arith) (omega (arith, d .small)))
 
 -- the value of digits is the number that they spell
-value-is : (a : ℕ) (ds : List Digit) (rest : List ℕ) → isDigit (getD rest 0 0) ≡ false → value a (numerals ds ++ rest) ≡ spelt a ds
+spelt-is : (a : ℕ) (ds : List Digit) (rest : List ℕ) → isDigit (getD rest 0 0) ≡ false → value a (numerals ds ++ rest) ≡ spelt a ds
 unfolding value spelt
-value-is a [] [] e = refl
-value-is a [] (x ∷ xs) e = simp e
-value-is a (d ∷ ds) rest e =
+spelt-is a [] [] e = refl
+spelt-is a [] (x ∷ xs) e = simp e
+spelt-is a (d ∷ ds) rest e =
     let n : numeral d - 48 ≡ d .is = unfold numeral in omega arith in
-    simp (numeral-is d, n, value-is (a * 10 + d .is) ds rest e)
+    simp (numeral-is d, n, spelt-is (a * 10 + d .is) ds rest e)
 
--- digits, where no more of them follow
-module _ (s : List ℕ) (at : ℕ) (rest : List ℕ) (e : isDigit (getD rest 0 0) ≡ false) (ds : List Digit) (h : drop at s ≡ numerals ds ++ rest) where
-  digits-scan : scan isDigit s at ≡ at + length ds
-  digits-scan = map-scan s at numeral ds rest h isDigit numeral-is e
+or-second : (t u : Bool) → (t || u) ≡ false → u ≡ false
+or-second true u e = absurd (let z : _≡_ {A = ℕ} 0 1 = cc in omega arith)
+or-second false u e = e
 
-  digits-value : (a : ℕ) → value a (drop at s) ≡ spelt a ds
-  digits-value a = ap (λ (y : List ℕ). value a y) h ∙ value-is a ds rest e
+-- ds are all the digits at a place, and rest what follows them
+pub record Figures (s : List ℕ) (at : ℕ) (ds : List Digit) (rest : List ℕ) : Type 0 where
+  pub scanned : scan isDigit s at ≡ at + length ds
+  pub spells : (a : ℕ) → value a (drop at s) ≡ spelt a ds
+  pub past : drop (at + length ds) s ≡ rest
+  pub next : getD s (at + length ds) 0 ≡ getD rest 0 0
 
-  digits-past : drop (at + length ds) s ≡ rest
-  digits-past = map-past s at numeral ds rest h
-
-  digits-next : getD s (at + length ds) 0 ≡ getD rest 0 0
-  digits-next = byte-here s (at + length ds) rest digits-past
-
--- The first byte of a number's digits: no sign, no white space, and it begins a number
-record Begins (b : ℕ) : Type 0 where
-  plus : eqb b 43 ≡ false
-  minus : eqb b 45 ≡ false
-  space : isSpace b ≡ false
-  number : startsNumber b ≡ true
-
-begins-dot : Begins 46
-unfolding within
-begins-dot = record { plus = refl; minus = refl; space = refl; number = refl }
-
-above : (d : Digit) (k : ℕ) → k < 48 → eqb (numeral d) k ≡ false
-unfolding numeral
-above d k h = ne-eqb (48 + d .is) k (λ e. omega arith)
-
-begins-numeral : (d : Digit) → Begins (numeral d)
-begins-numeral d =
+pub figures-are : (s : List ℕ) (at : ℕ) (ds : List Digit) (rest : List ℕ) → isDigit (getD rest 0 0) ≡ false → drop at s ≡ numerals ds ++ rest → Figures s at ds rest
+figures-are s at ds rest e h =
+    let p : drop (at + length ds) s ≡ rest = map-past s at numeral ds rest h in
     record {
-      plus = above d 43 (lit≤ tt);
-      minus = above d 45 (lit≤ tt);
-      space = unfold numeral in no-space (48 + d .is) (omega arith);
-      number = simp (numeral-is d);
+      scanned = map-scan s at numeral ds rest h isDigit numeral-is e;
+      spells = λ a. ap (λ (y : List ℕ). value a y) h ∙ spelt-is a ds rest e;
+      past = p;
+      next = byte-here s (at + length ds) rest p;
     }
 
-begins-digits : (m : Digits) (rest : List ℕ) → Begins (getD (digits m ++ rest) 0 0)
+-- a numeral is none of the other bytes of a number
+below : (d : Digit) (k : ℕ) → k < 48 → eqb (numeral d) k ≡ false
+unfolding numeral
+below d k h = ne-eqb (48 + d .is) k (λ e. omega arith)
+
+above : (d : Digit) (k : ℕ) → 57 < k → eqb (numeral d) k ≡ false
+unfolding numeral
+above d k h = ne-eqb (48 + d .is) k (λ e. omega (arith, d .small))
+
+no-sign : (d : Digit) → isSign (numeral d) ≡ false
+no-sign d = simp (below d 43 (lit≤ tt), below d 45 (lit≤ tt))
+
+pub begins : (m : Digits) (r : List ℕ) → isSign (getD (digits m ++ r) 0 0) ≡ false
 unfolding digits
-begins-digits (whole d ds) rest = begins-numeral d
-begins-digits (dotted [] f fs) rest = begins-dot
-begins-digits (dotted (d ∷ ds) f fs) rest = begins-numeral d
+begins (whole d ds) r = no-sign d
+begins (dotted [] d fs) r = refl
+begins (dotted (d ∷ ds) f fs) r = no-sign d
 
-digits-some : (m : Digits) → 0 < length (digits m)
-unfolding digits
-digits-some (whole d ds) = omega arith
-digits-some (dotted ds f fs) = omega (arith, length-append (numerals ds) (46 ∷ numerals (f ∷ fs)))
+no-dot : isDigit 46 ≡ false
+unfolding within
+no-dot = refl
 
--- the mantissa of digits
-mantissa-is : (s : List ℕ) (at : ℕ) (m : Digits) (rest : List ℕ) → isDigit (getD rest 0 0) ≡ false → eqb (getD rest 0 0) 46 ≡ false → drop at s ≡ digits m ++ rest
-    → mantissaAt s at ≡ record { ok = true; value = joined m; fraction = fraction-digits m; dotted = not (isWhole m); end = place (at + length (digits m)) }
-unfolding mantissaAt mantissaDot digits joined fraction-digits isWhole
-mantissa-is s at (whole d ds) rest e f h =
-    simp (
-      digits-scan s at rest e (d ∷ ds) h,
-      digits-next s at rest e (d ∷ ds) h,
-      f,
-      digits-value s at rest e (d ∷ ds) h,
-      lt-ltb at (at + suc (length ds)) (omega arith),
-    ) (simp length-map)
-mantissa-is s at (dotted ds d fs) rest e f h =
-    let after = numerals (d ∷ fs) ++ rest in
-    let g : drop at s ≡ numerals ds ++ (46 ∷ after) = simp append-assoc at h in
-    let n : isDigit 46 ≡ false = unfold within in refl in
-    let dot = at + length ds in
-    let past-dot : drop (dot + 1) s ≡ after = drop-on s dot (46 ∷ after) (digits-past s at (46 ∷ after) n ds g) 1 in
-    let end = at + (length ds + suc (suc (length fs))) in
-    let y : dot + 1 + suc (length fs) ≡ end = omega arith in
-    let z : end - (dot + 1) ≡ suc (length fs) = omega arith in
-    simp (
-      digits-scan s at (46 ∷ after) n ds g,
-      digits-next s at (46 ∷ after) n ds g,
-      digits-value s at (46 ∷ after) n ds g,
-      digits-scan s (dot + 1) rest e (d ∷ fs) past-dot,
-      digits-value s (dot + 1) rest e (d ∷ fs) past-dot,
-      y,
-      z,
-      lt-ltb (dot + 1) end (omega arith),
-    ) (simp (length-append, length-map))
+module _ (s : List ℕ) (at : ℕ) where
+  -- the sign
+  pub sign-is : (g : Sign) (r : List ℕ) → isSign (getD r 0 0) ≡ false → drop at s ≡ sign g ++ r → afterSign s at ≡ at + length (sign g)
+  unfolding afterSign sign
+  sign-is unsigned r e h = simp (byte-here s at r h, e) (omega arith)
+  sign-is plus r e h = simp (byte-here s at (43 ∷ r) h)
+  sign-is minus r e h = simp (byte-here s at (45 ∷ r) h)
 
-sign-is : (s : List ℕ) (i : ℕ) (g : Sign) (rest : List ℕ) → Begins (getD rest 0 0) → drop i s ≡ sign g ++ rest → afterSign s i ≡ i + length (sign g)
-unfolding afterSign sign
-sign-is s i unsigned rest b h = simp (byte-here s i rest h, b .plus, b .minus) (omega arith)
-sign-is s i plus rest b h = simp (byte-here s i (43 ∷ rest) h)
-sign-is s i minus rest b h = simp (byte-here s i (45 ∷ rest) h)
+  minus-is : (g : Sign) (r : List ℕ) → isSign (getD r 0 0) ≡ false → drop at s ≡ sign g ++ r → eqb (getD s at 0) 45 ≡ isMinus g
+  unfolding sign isMinus
+  minus-is unsigned r e h = rw (byte-here s at r h) (or-second (eqb (getD r 0 0) 43) (eqb (getD r 0 0) 45) e)
+  minus-is plus r e h = rw (byte-here s at (43 ∷ r) h) refl
+  minus-is minus r e h = rw (byte-here s at (45 ∷ r) h) refl
 
--- the first byte of a number tells its sign
-minus-is : (g : Sign) (rest : List ℕ) → Begins (getD rest 0 0) → eqb (getD (sign g ++ rest) 0 0) 45 ≡ isMinus g
-unfolding sign isMinus
-minus-is unsigned rest b = b .minus
-minus-is plus rest b = refl
-minus-is minus rest b = refl
+  -- the digits, the dot
+  pub dotted-apart : (ds : List Digit) (d : Digit) (fs : List Digit) (r : List ℕ) → drop at s ≡ digits (dotted ds d fs) ++ r
+      → (Figures s at ds (46 ∷ (numerals (d ∷ fs) ++ r))) × (drop (at + length ds + 1) s ≡ numerals (d ∷ fs) ++ r)
+  unfolding digits
+  dotted-apart ds d fs r h =
+      let after = numerals (d ∷ fs) ++ r in
+      let f = figures-are s at ds (46 ∷ after) no-dot (simp append-assoc at h) in
+      (f, drop-on s (at + length ds) (46 ∷ after) (f .past) 1)
 
-begins-space : (g : Sign) (rest : List ℕ) → Begins (getD rest 0 0) → isSpace (getD (sign g ++ rest) 0 0) ≡ false
-unfolding sign
-begins-space unsigned rest b = b .space
-begins-space plus rest b = refl
-begins-space minus rest b = refl
+  pub mantissa-is : (m : Digits) (r : List ℕ) → isDigit (getD r 0 0) ≡ false → (isWhole m ≡ true → eqb (getD r 0 0) 46 ≡ false) → drop at s ≡ digits m ++ r
+      → mantissaAt s at ≡ record { ok = true; value = joined m; fraction = fraction-digits m; dotted = not (isWhole m); end = place (at + length (digits m)) }
+  unfolding mantissaAt mantissaDot digits joined fraction-digits isWhole
+  mantissa-is (whole d ds) r e f h =
+      let w = figures-are s at (d ∷ ds) r e h in
+      simp (w .scanned, w .next, f refl, w .spells 0, lt-ltb at (at + suc (length ds)) (omega arith)) (simp length-map)
+  mantissa-is (dotted ds d fs) r e f h =
+      let w = dotted-apart ds d fs r h in
+      let dot = at + length ds in
+      let v = figures-are s (dot + 1) (d ∷ fs) r e (w .1) in
+      let end = at + (length ds + suc (suc (length fs))) in
+      let y : dot + 1 + suc (length fs) ≡ end = omega arith in
+      let z : end - (dot + 1) ≡ suc (length fs) = omega arith in
+      simp (w .0 .scanned, w .0 .next, w .0 .spells 0, v .scanned, v .spells (spelt 0 ds), y, z, lt-ltb (dot + 1) end (omega arith)) (simp (length-append, length-map))
 
-begins-number : (g : Sign) (rest : List ℕ) → Begins (getD rest 0 0) → startsNumber (getD (sign g ++ rest) 0 0) ≡ true
-unfolding sign within
-begins-number unsigned rest b = b .number
-begins-number plus rest b = refl
-begins-number minus rest b = refl
-
--- the exponent after its letter: no m and no x, a sign and digits
-module _ (s : List ℕ) (at : ℕ) (g : Sign) (d : Digit) (ds : List Digit) (rest : List ℕ) (e : isDigit (getD rest 0 0) ≡ false) (h : drop at s ≡ sign g ++ (numerals (d ∷ ds) ++ rest)) where
-  no-unit : (eqb (getD s at 0) 109 || eqb (getD s at 0) 120) ≡ false
+  -- the exponent's letter, after which stands no m and no x (109, 120)
+  no-unit : (g : Sign) (d : Digit) (r : List ℕ) → drop (at + 1) s ≡ sign g ++ (numeral d ∷ r) → (eqb (getD s (at + 1) 0) 109 || eqb (getD s (at + 1) 0) 120) ≡ false
   unfolding sign
-  no-unit = simp (byte-here s at (sign g ++ (numerals (d ∷ ds) ++ rest)) h) (go g)
-    where
-      go : (g : Sign) → (eqb (getD (sign g ++ (numerals (d ∷ ds) ++ rest)) 0 0) 109 || eqb (getD (sign g ++ (numerals (d ∷ ds) ++ rest)) 0 0) 120) ≡ false
-      go unsigned = simp (ne-eqb (numeral d) 109 (λ q. unfold numeral in omega (arith, d .small)), ne-eqb (numeral d) 120 (λ q. unfold numeral in omega (arith, d .small)))
-      go plus = refl
-      go minus = refl
+  no-unit unsigned d r h = simp (byte-here s (at + 1) (numeral d ∷ r) h, above d 109 (lit≤ tt), above d 120 (lit≤ tt))
+  no-unit plus d r h = simp (byte-here s (at + 1) (43 ∷ (numeral d ∷ r)) h)
+  no-unit minus d r h = simp (byte-here s (at + 1) (45 ∷ (numeral d ∷ r)) h)
 
-  from-is : exponentFrom s (afterSign s at) (eqb (getD s at 0) 45)
-      ≡ record { ok = true; minus = isMinus g; value = spelt 0 (d ∷ ds); written = true; end = place (at + length (sign g ++ numerals (d ∷ ds))) }
-  unfolding exponentFrom
-  from-is =
-      let from = at + length (sign g) in
-      let q : drop from s ≡ numerals (d ∷ ds) ++ rest = past s at (sign g) (numerals (d ∷ ds) ++ rest) h in
-      let end = at + (length (sign g) + suc (length ds)) in
-      let y : from + suc (length ds) ≡ end = omega arith in
+-- and what follows the letter c
+module _ (s : List ℕ) (at c : ℕ) (g : Sign) (d : Digit) (ds : List Digit) (r : List ℕ) (l : (eqb c 101 || eqb c 69) ≡ true) (h : drop at s ≡ (c ∷ (sign g ++ numerals (d ∷ ds))) ++ r) where
+  abbrev after : List ℕ
+  after = numerals (d ∷ ds) ++ r
+
+  lettered : drop at s ≡ c ∷ (sign g ++ after)
+  lettered = h ∙ ap (λ (y : List ℕ). c ∷ y) (append-assoc (sign g) (numerals (d ∷ ds)) r)
+
+  signed : drop (at + 1) s ≡ sign g ++ after
+  signed = drop-on s at (c ∷ (sign g ++ after)) lettered 1
+
+  pub raised : drop (at + 1 + length (sign g)) s ≡ after
+  raised = past s (at + 1) (sign g) after signed
+
+  pub exponent-opens : exponentAt s at ≡ exponentFrom s (at + 1 + length (sign g)) (isMinus g)
+  unfolding exponentAt
+  exponent-opens =
       simp (
-        sign-is s at g (numerals (d ∷ ds) ++ rest) (begins-numeral d) h,
-        byte-here s at (sign g ++ (numerals (d ∷ ds) ++ rest)) h,
-        minus-is g (numerals (d ∷ ds) ++ rest) (begins-numeral d),
-        digits-scan s from rest e (d ∷ ds) q,
-        digits-value s from rest e (d ∷ ds) q,
-        y,
-        lt-ltb from end (omega arith),
-      ) (simp (length-append, length-map))
+        byte-here s at (c ∷ (sign g ++ after)) lettered,
+        l,
+        no-unit s at g d (numerals ds ++ r) signed,
+        sign-is s (at + 1) g after (no-sign d) signed,
+        minus-is s (at + 1) g after (no-sign d) signed,
+      )
 
--- and with its letter
-lettered : (s : List ℕ) (at c : ℕ) (g : Sign) (d : Digit) (ds : List Digit) (rest : List ℕ) → (eqb c 101 || eqb c 69) ≡ true → isDigit (getD rest 0 0) ≡ false
-    → drop at s ≡ (c ∷ (sign g ++ numerals (d ∷ ds))) ++ rest
-    → exponentAt s at ≡ record { ok = true; minus = isMinus g; value = spelt 0 (d ∷ ds); written = true; end = place (at + suc (length (sign g ++ numerals (d ∷ ds)))) }
-unfolding exponentAt
-lettered s at c g d ds rest q e h =
-    let k : drop at s ≡ c ∷ (sign g ++ (numerals (d ∷ ds) ++ rest)) = h ∙ ap (λ (y : List ℕ). c ∷ y) (append-assoc (sign g) (numerals (d ∷ ds)) rest) in
-    let j : drop (at + 1) s ≡ sign g ++ (numerals (d ∷ ds) ++ rest) = drop-on s at _ k 1 in
-    let y : at + 1 + length (sign g ++ numerals (d ∷ ds)) ≡ at + suc (length (sign g ++ numerals (d ∷ ds))) = omega arith in
-    simp (byte-here s at _ k, q, no-unit s (at + 1) g d ds rest e j, from-is s (at + 1) g d ds rest e j, y)
+  exponent-ends : isDigit (getD r 0 0) ≡ false
+      → exponentAt s at ≡ record { ok = true; minus = isMinus g; value = spelt 0 (d ∷ ds); written = true; end = place (at + suc (length (sign g ++ numerals (d ∷ ds)))) }
+  unfolding exponentFrom
+  exponent-ends e =
+      let from = at + 1 + length (sign g) in
+      let end = at + suc (length (sign g) + suc (length ds)) in
+      let y : from + suc (length ds) ≡ end = omega arith in
+      let v = figures-are s from (d ∷ ds) r e raised in
+      exponent-opens ∙ simp (v .scanned, v .spells 0, y, lt-ltb from end (omega arith)) (simp (length-append, length-map))
 
-exponent-is : (s : List ℕ) (at : ℕ) (x : Exponent) (rest : List ℕ) → Ends rest → drop at s ≡ exponent x ++ rest
-    → exponentAt s at ≡ record { ok = true; minus = falls x; value = power x; written = not (isAbsent x); end = place (at + length (exponent x)) }
-unfolding exponentAt exponent falls power isAbsent
-exponent-is s at absent rest e h =
-    let z : at + 0 ≡ at = omega arith in
-    either (eqb (getD rest 0 0) 101 || eqb (getD rest 0 0) 69)
-    (λ p. either (eqb (getD rest 1 0) 109 || eqb (getD rest 1 0) 120) (λ q. simp (byte-here s at rest h, byte-on s at rest h 1, p, q, z))
-    (λ q. let r : true ≡ false = simp (p, q) at (e .letter) in cc))
-    (λ p. simp (byte-here s at rest h, p, z))
-exponent-is s at (small g d ds) rest e h = lettered s at 101 g d ds rest refl (e .digit) h
-exponent-is s at (capital g d ds) rest e h = lettered s at 69 g d ds rest refl (e .digit) h
+module _ (s : List ℕ) (at : ℕ) where
+  pub exponent-is : (x : Exponent) (r : List ℕ) → isDigit (getD r 0 0) ≡ false
+      → (isAbsent x ≡ true → ((eqb (getD r 0 0) 101 || eqb (getD r 0 0) 69) && not (eqb (getD r 1 0) 109 || eqb (getD r 1 0) 120)) ≡ false) → drop at s ≡ exponent x ++ r
+      → exponentAt s at ≡ record { ok = true; minus = falls x; value = power x; written = not (isAbsent x); end = place (at + length (exponent x)) }
+  unfolding exponentAt exponent falls power isAbsent
+  exponent-is absent r e f h =
+      let z : at + 0 ≡ at = omega arith in
+      either (eqb (getD r 0 0) 101 || eqb (getD r 0 0) 69)
+      (λ p. either (eqb (getD r 1 0) 109 || eqb (getD r 1 0) 120) (λ q. simp (byte-here s at r h, byte-on s at r h 1, p, q, z))
+      (λ q. let y : true ≡ false = simp (p, q) at (f refl) in cc))
+      (λ p. simp (byte-here s at r h, p, z))
+  exponent-is (small g d ds) r e f h = exponent-ends s at 101 g d ds r refl h e
+  exponent-is (capital g d ds) r e f h = exponent-ends s at 69 g d ds r refl h e
 
--- what follows the digits is no digit and no dot
-after-digit : (x : Exponent) (rest : List ℕ) → Ends rest → isDigit (getD (exponent x ++ rest) 0 0) ≡ false
+-- what follows the digits is no digit, and no dot after whole ones
+after-digit : (x : Exponent) (r : List ℕ) → isDigit (getD r 0 0) ≡ false → isDigit (getD (exponent x ++ r) 0 0) ≡ false
 unfolding exponent within
-after-digit absent rest e = e .digit
-after-digit (small g d ds) rest e = refl
-after-digit (capital g d ds) rest e = refl
+after-digit absent r e = e
+after-digit (small g d ds) r e = refl
+after-digit (capital g d ds) r e = refl
 
-after-dot : (x : Exponent) (rest : List ℕ) → Ends rest → eqb (getD (exponent x ++ rest) 0 0) 46 ≡ false
-unfolding exponent
-after-dot absent rest e = e .dot
-after-dot (small g d ds) rest e = refl
-after-dot (capital g d ds) rest e = refl
+after-dot : (b : Bool) (x : Exponent) (r : List ℕ) → ((b && isAbsent x) ≡ true → eqb (getD r 0 0) 46 ≡ false) → b ≡ true → eqb (getD (exponent x ++ r) 0 0) 46 ≡ false
+unfolding exponent isAbsent
+after-dot b absent r e q = e (rw q refl)
+after-dot b (small g d ds) r e q = refl
+after-dot b (capital g d ds) r e q = refl
 
 near-is : (down : Bool) (e f : ℕ) → Near down e f → scaleOf down e f .by ≤ 22
 unfolding scaleOf
@@ -223,121 +200,115 @@ whole-is true true = refl
 whole-is true false = refl
 whole-is false b = refl
 
--- A number at a place of a text, after white space: the law for every text whose rest from there is known
-module _ (s : List ℕ) (i : ℕ) (l : List Blank) (t : Number) (rest : List ℕ) (dom : InDomain t) (e : Ends rest) (h : drop i s ≡ blanks l ++ (number t ++ rest)) where
-  abbrev g : Sign
-  g = t .signed
+numeral-starts : (d : Digit) → startsNumber (numeral d) ≡ true
+numeral-starts d = simp (numeral-is d)
 
-  abbrev m : Digits
-  m = t .digits-of
+starts-number : (t : Number) (r : List ℕ) → startsNumber (getD (number t ++ r) 0 0) ≡ true
+unfolding number sign digits within
+starts-number t r = go (t .signed) (t .digits-of)
+  where
+    go : (g : Sign) (m : Digits) → startsNumber (getD ((sign g ++ (digits m ++ exponent (t .exponent-of))) ++ r) 0 0) ≡ true
+    go plus m = refl
+    go minus m = refl
+    go unsigned (whole d ds) = numeral-starts d
+    go unsigned (dotted [] d fs) = refl
+    go unsigned (dotted (d ∷ ds) f fs) = numeral-starts d
 
-  abbrev x : Exponent
-  x = t .exponent-of
+-- A number at a place of a text, after white space
+module _ (s : List ℕ) (i : ℕ) (l : List Blank) (t : Number) (rest : List ℕ) (dom : InDomain t) (e : Apart t rest) (h : drop i s ≡ blanks l ++ (number t ++ rest)) where
+  abbrev g : List ℕ
+  g = sign (t .signed)
+
+  abbrev m : List ℕ
+  m = digits (t .digits-of)
+
+  abbrev x : List ℕ
+  x = exponent (t .exponent-of)
 
   abbrev start : ℕ
   start = i + length l
 
-  abbrev after-g : List ℕ
-  after-g = digits m ++ (exponent x ++ rest)
-
-  begins : Begins (getD after-g 0 0)
-  begins = begins-digits m (exponent x ++ rest)
-
-  parts : number t ++ rest ≡ sign g ++ after-g
-  unfolding number
-  parts = simp append-assoc
-
-  text-is : drop i s ≡ blanks l ++ (sign g ++ after-g)
-  text-is = h ∙ ap (λ (y : List ℕ). blanks l ++ y) parts
-
-  spaces-is : scan isSpace s i ≡ start
-  spaces-is = blanks-scan s i l (sign g ++ after-g) text-is (begins-space g after-g begins)
-
-  at-start : drop start s ≡ sign g ++ after-g
-  at-start = blanks-past s i l (sign g ++ after-g) text-is
-
-  starts : startsNumber (getD s start 0) ≡ true
-  starts = ap startsNumber (byte-here s start (sign g ++ after-g) at-start) ∙ begins-number g after-g begins
-
-  negative : eqb (getD s start 0) 45 ≡ isMinus g
-  negative = ap (λ (b : ℕ). eqb b 45) (byte-here s start (sign g ++ after-g) at-start) ∙ minus-is g after-g begins
-
-  some : start < length s
-  some = inside s start (sign g ++ after-g) at-start (omega (arith, length-append (sign g) after-g, length-append (digits m) (exponent x ++ rest), digits-some m))
-
   abbrev end : ℕ
   end = i + (length l + length (number t))
 
-  end-is : start + length (sign g) + length (digits m) + length (exponent x) ≡ end
+  spaces-are : scan isSpace s i ≡ start
+  spaces-are = blanks-scan s i l (number t ++ rest) h (no-space (getD (number t ++ rest) 0 0) (omega (arith, number-first t rest .low)))
+
+  at-start : drop start s ≡ number t ++ rest
+  at-start = blanks-past s i l (number t ++ rest) h
+
+  parted : drop start s ≡ g ++ (m ++ (x ++ rest))
   unfolding number
-  end-is = omega (arith, length-append (sign g) (digits m ++ exponent x), length-append (digits m) (exponent x))
+  parted = simp append-assoc at at-start
 
-  sign-read : afterSign s start ≡ start + length (sign g)
-  sign-read = sign-is s start g after-g begins at-start
+  at-digits : drop (start + length g) s ≡ m ++ (x ++ rest)
+  at-digits = past s start g (m ++ (x ++ rest)) parted
 
-  at-digits : drop (start + length (sign g)) s ≡ after-g
-  at-digits = past s start (sign g) after-g at-start
+  negative : eqb (getD s start 0) 45 ≡ isMinus (t .signed)
+  negative = minus-is s start (t .signed) (m ++ (x ++ rest)) (begins (t .digits-of) (x ++ rest)) parted
 
-  mantissa-read : mantissaAt s (start + length (sign g))
-      ≡ record { ok = true; value = joined m; fraction = fraction-digits m; dotted = not (isWhole m); end = place (start + length (sign g) + length (digits m)) }
-  mantissa-read = mantissa-is s (start + length (sign g)) m (exponent x ++ rest) (after-digit x rest e) (after-dot x rest e) at-digits
+  sign-read : afterSign s start ≡ start + length g
+  sign-read = sign-is s start (t .signed) (m ++ (x ++ rest)) (begins (t .digits-of) (x ++ rest)) parted
 
-  exponent-read : exponentAt s (start + length (sign g) + length (digits m))
-      ≡ record { ok = true; minus = falls x; value = power x; written = not (isAbsent x); end = place end }
+  mantissa-read : mantissaAt s (start + length g)
+      ≡ record { ok = true; value = joined (t .digits-of); fraction = fraction-digits (t .digits-of); dotted = not (isWhole (t .digits-of)); end = place (start + length g + length m) }
+  mantissa-read =
+      mantissa-is s (start + length g) (t .digits-of) (x ++ rest) (after-digit (t .exponent-of) rest (e .digit)) (after-dot (isWhole (t .digits-of)) (t .exponent-of) rest (e .dot)) at-digits
+
+  end-is : start + length g + length m + length x ≡ end
+  unfolding number
+  end-is = omega (arith, length-append g (m ++ x), length-append m x)
+
+  exponent-read : exponentAt s (start + length g + length m)
+      ≡ record { ok = true; minus = falls (t .exponent-of); value = power (t .exponent-of); written = not (isAbsent (t .exponent-of)); end = place end }
   exponent-read =
-      rw end-is at (exponent-is s (start + length (sign g) + length (digits m)) x rest e (past s (start + length (sign g)) (digits m) (exponent x ++ rest) at-digits))
+      rw end-is at (exponent-is s (start + length g + length m) (t .exponent-of) rest (e .digit) (e .letter) (past s (start + length g) m (x ++ rest) at-digits))
 
   abbrev found : Float
-  found = let sc = scaleOf (falls x) (power x) (fraction-digits m) in valueOf (isMinus g) (joined m) (sc .down) (sc .by)
+  found = let sc = scaleOf (falls (t .exponent-of)) (power (t .exponent-of)) (fraction-digits (t .digits-of)) in valueOf (isMinus (t .signed)) (joined (t .digits-of)) (sc .down) (sc .by)
 
   value-read : parseNumber s i ≡ N.Value (record { value = found; whole = isInteger t; end = place end }) (place end)
   unfolding parseNumber bind numberFrom finished scaled
   value-read =
-      let sc = scaleOf (falls x) (power x) (fraction-digits m) in
-      simp (spaces-is, lt-leb (length s) start some, starts)
+      let sc = scaleOf (falls (t .exponent-of)) (power (t .exponent-of)) (fraction-digits (t .digits-of)) in
+      let some : start < length s = inside s start (number t ++ rest) at-start (omega (arith, length-append (number t) rest, number-some t)) in
+      let starts : startsNumber (getD s start 0) ≡ true = ap startsNumber (byte-here s start (number t ++ rest) at-start) ∙ starts-number t rest in
+      simp (spaces-are, lt-leb (length s) start some, starts)
       (simp (
         negative,
         sign-read,
         mantissa-read,
         exponent-read,
-        lt-ltb (joined m) cap (dom .small),
-        le-leb (sc .by) 22 (near-is (falls x) (power x) (fraction-digits m) (dom .near)),
-        whole-is (isWhole m) (isAbsent x),
+        lt-ltb (joined (t .digits-of)) cap (dom .small),
+        le-leb (sc .by) 22 (near-is (falls (t .exponent-of)) (power (t .exponent-of)) (fraction-digits (t .digits-of)) (dom .near)),
+        whole-is (isWhole (t .digits-of)) (isAbsent (t .exponent-of)),
       ))
 
   found-is : found ≡ double (exactly t)
   unfolding written nearest double exactly
-  found-is =
-      number-nearest s i _ (place end) value-read
-      ∙ simp (spaces-is, negative, sign-read, mantissa-read, exponent-read)
+  found-is = number-nearest s i _ (place end) value-read ∙ simp (spaces-are, negative, sign-read, mantissa-read, exponent-read)
 
-  pub number-read : parseNumber s i ≡ N.Value (record { value = double (exactly t); whole = isInteger t; end = place end }) (place end)
-  number-read = rw found-is at value-read
+  -- THEOREM. The double nearest to what is written, whether it is written as an integer, and its end
+  pub number-at : parseNumber s i ≡ N.Value (numberOf t end) (place end)
+  number-at = rw found-is at value-read
+
+  -- where the reader's own steps end
+  pub reach : exponentAt s (mantissaAt s (afterSign s start) .end .0) .end .0 ≡ end
+  reach = rw (sign-read, mantissa-read, exponent-read) refl
 
 module _ (s : List ℕ) (i : ℕ) (l : List Blank) (t : Number) (rest : List ℕ) (dom : InDomain t) (h : drop i s ≡ blanks l ++ (number t ++ (37 ∷ rest))) where
-  pub percent-read : parseNumberOrPercent s i
-      ≡ N.Value (record { value = div binary64 (double (exactly t)) hundred; whole = isInteger t; end = place (i + (length l + length (number t))) })
+  -- THEOREM. A percentage: that double, divided by 100 and rounded again
+  pub percent-at : parseNumberOrPercent s i
+      ≡ N.Value (record { value = portion t; whole = isInteger t; end = place (i + (length l + length (number t))) })
       (place (i + (length l + length (number t)) + 1))
   unfolding parseNumberOrPercent
-  percent-read =
-      simp (number-read s i l t (37 ∷ rest) dom (ends-percent rest) h, curr-is s (i + (length l + length (number t))) 37 rest (spaced-past s i l (number t) (37 ∷ rest) h))
+  percent-at =
+      simp (number-at s i l t (37 ∷ rest) dom (ends-apart t (ends-percent rest)) h, curr-is s (i + (length l + length (number t))) 37 rest (spaced-past s i l (number t) (37 ∷ rest) h))
 
--- THEOREM. A number in a text, after white space: the double nearest to what is written, whether it is written as an integer, and its end.
-module _ (a : List ℕ) (l : List Blank) (t : Number) (rest : List ℕ) (dom : InDomain t) where
-  pub number-at : Ends rest → parseNumber (a ++ (blanks l ++ (number t ++ rest))) (length a)
-      ≡ N.Value (record { value = double (exactly t); whole = isInteger t; end = place (length a + (length l + length (number t))) }) (place (length a + (length l + length (number t))))
-  number-at e = number-read _ (length a) l t rest dom e (drop-append-seam a (blanks l ++ (number t ++ rest)))
-
-  -- THEOREM. A percentage: that double, divided by 100 and rounded again.
-  pub percent-at : parseNumberOrPercent (a ++ (blanks l ++ (number t ++ (37 ∷ rest)))) (length a)
-      ≡ N.Value (record { value = div binary64 (double (exactly t)) hundred; whole = isInteger t; end = place (length a + (length l + length (number t))) })
-      (place (length a + (length l + length (number t)) + 1))
-  percent-at = percent-read _ (length a) l t rest dom (drop-append-seam a (blanks l ++ (number t ++ (37 ∷ rest))))
-
--- THEOREM. Both, at the front of a text.
+-- THEOREM. Both, at the front of a text
 pub numbers-read : NumbersRead
 numbers-read =
     record {
-      number-front = λ l t rest dom e. rw zero-add at (number-at [] l t rest dom e);
-      percent-front = λ l t rest dom. rw zero-add at (percent-at [] l t rest dom);
+      number-front = λ l t rest dom e. rw zero-add at (number-at (blanks l ++ (number t ++ rest)) 0 l t rest dom (ends-apart t e) refl);
+      percent-front = λ l t rest dom. rw zero-add at (percent-at (blanks l ++ (number t ++ (37 ∷ rest))) 0 l t rest dom refl);
     }

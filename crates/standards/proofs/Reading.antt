@@ -11,8 +11,12 @@ use Rattle.numbers.specs.declared.NumberRead.the-variants as N
 use Rattle.numbers.proofs.Shifts.{number-shift, percent-shift}
 use Rattle.standards.specs.CssValues3.{Blank, space, tab, line-feed, return, blank, blanks, Number, number, isInteger}
 use Rattle.standards.specs.Domain.{InDomain}
-use Rattle.standards.specs.Answers.{Ends, numberOf, portion}
+use Rattle.standards.specs.Answers.{Apart, Ends, numberOf, portion}
 use Rattle.standards.proofs.Cursors.{At, at-read}
+
+-- What may follow any number does not go on with it
+pub ends-apart : {rest : List ℕ} (t : Number) → Ends rest → Apart t rest
+ends-apart t e = record { digit = e .digit; letter = λ q. e .letter; dot = λ q. e .dot }
 
 -- Common followers of a number
 pub ends-none : Ends []

@@ -1,6 +1,6 @@
 -- What the readers' answers are for each tree: the one file of specs/ that names both sides, with Documents, which states the theorems.
 use Prim.Native.Nat.{ℕ, _+_}
-use mathlib.Core.Bool.{Bool, false, _||_, _&&_, not}
+use mathlib.Core.Bool.{Bool, true, false, _||_, _&&_, not}
 use mathlib.Core.List.{List, [], _∷_}
 use mathlib.Core.Path.{_≡_}
 use lib.Dec.{eqb}
@@ -31,7 +31,7 @@ use Rattle.filter_functions.specs.declared.ShadowColor.the-variants as O
 use Rattle.filter_functions.specs.declared.FilterStep.{FilterStep}
 use Rattle.filter_functions.specs.declared.FilterStep.the-variants as Step
 use Rattle.standards.specs.Ieee754.{Fraction, parameters, RoundsTo, double, exact, quotient}
-use Rattle.standards.specs.CssValues3.{Number, exactly, isInteger, LengthUnit, em, ex, px, inch, cm, mm, pt, pc, AngleUnit, deg, grad, rad, turn}
+use Rattle.standards.specs.CssValues3.{Number, exactly, isAbsent, isInteger, LengthUnit, em, ex, px, inch, cm, mm, pt, pc, AngleUnit, deg, grad, rad, turn}
 use Rattle.standards.specs.CssColor3.{Hsl}
 use Rattle.standards.specs.CssColor4.{Channels}
 use Rattle.standards.specs.Svg2 as S
@@ -39,7 +39,13 @@ use Rattle.standards.specs.Svg2.{name, opening}
 use Rattle.standards.specs.FilterEffects1 as E
 use Rattle.standards.specs.FilterEffects1.{Simple, brightness, contrast, grayscale, invert, opacity, saturate, sepia}
 
--- What may follow a number: no digit, no dot, no e or E (101, 69), but that of `em` and `ex` (109, 120)
+-- What follows the number t does not go on with it: no digit; where no exponent is written no e or E (101, 69), but that of `em` and `ex` (109, 120); after an <integer> no dot (46)
+pub record Apart (t : Number) (rest : List ℕ) : Type 0 where
+  pub digit : isDigit (getD rest 0 0) ≡ false
+  pub letter : isAbsent (t .exponent-of) ≡ true → ((eqb (getD rest 0 0) 101 || eqb (getD rest 0 0) 69) && not (eqb (getD rest 1 0) 109 || eqb (getD rest 1 0) 120)) ≡ false
+  pub dot : isInteger t ≡ true → eqb (getD rest 0 0) 46 ≡ false
+
+-- What may follow any number: no digit, no dot, no e or E (101, 69), but that of `em` and `ex` (109, 120)
 pub record Ends (rest : List ℕ) : Type 0 where
   pub digit : isDigit (getD rest 0 0) ≡ false
   pub dot : eqb (getD rest 0 0) 46 ≡ false
