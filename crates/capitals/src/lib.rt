@@ -1,0 +1,1 @@
+// Theorems alone: the case of ASCII letters changes neither reading of a colour.
