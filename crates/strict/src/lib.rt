@@ -11,6 +11,11 @@ use bytes::Place;
 use color::ColorAnswer;
 use shapes::Walked;
 
+mod lines;
+
+pub use lines::asked;
+pub use lines::is_enough;
+
 // What the loose reading accepts and the strict one does not.
 const NOT_STRICT: u8 = 18;
 
