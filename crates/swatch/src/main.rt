@@ -1,10 +1,19 @@
-// Reads one colour text, up to the first line feed or the end of the input, and prints what it reads as.
+// Reads one colour text by the reading that a first line asks for, and prints what it reads as. It answers once the text's line has come.
+ghost use mathlib.Core.Path.{_≡_};
+ghost use Prim.Native.Nat.{_+_, _≤_};
+ghost use lib.ListN.{length};
 use bytes::Place;
 use color::Color;
 use color::ColorAnswer;
 use libc::STDIN_FILENO;
 use libc::STDOUT_FILENO;
 use stream::Refusal;
+
+// What no text is longer than, and what one read takes at most.
+const LIMIT: usize = 4096;
+
+// The number of a text over the limit.
+const TOO_LONG: u8 = 1;
 
 fn print_field(name: &[u8], n: u64) {
     io::write_all(STDOUT_FILENO, name);
@@ -28,41 +37,52 @@ fn refused_at(r: Refusal) -> usize {
     if r.number == 2 { place.0 } else { position.0 }
 }
 
-fn show(text: &[u8]) {
-    match color::from_str(text) {
-        ColorAnswer::Value(c) => print_answer(0, 0, c),
-        ColorAnswer::Refused(r) => {
-            let zeros = Color {
-                red: 0,
-                green: 0,
-                blue: 0,
-                alpha: 0,
-            };
-            print_answer(r.number, refused_at(r), zeros);
+fn print_refusal(r: Refusal) {
+    let zeros = Color {
+        red: 0,
+        green: 0,
+        blue: 0,
+        alpha: 0,
+    };
+    print_answer(r.number, refused_at(r), zeros);
+}
+
+// What is there already, put behind what has come; how many bytes that is. None: the input has ended.
+fn read_piece(space: &mut [u8], at: usize) -> usize
+    requires { ⌜ at + 4096 ≤ length (now space) ⌝ }
+    ensures { λ r. ⌜ at + r ≤ length (now (space .entry)) ⌝ }
+    ensures { λ _. ⌜ length (now (space .exit)) ≡ length (now (space .entry)) ⌝ }
+{
+    let mut piece = io::buffer();
+    let n = io::count(libc::read(STDIN_FILENO, &mut piece), &piece);
+    lent::put(space, at, &piece[..n]);
+    n
+}
+
+// Reads until what has come is enough, or the input ends; how many bytes have come. 4,109 are always enough (strict's `full`): the space does not fill.
+fn read_enough(space: &mut [u8]) -> usize
+    ensures { λ r. ⌜ r ≤ length (now (space .exit)) ⌝ }
+{
+    let mut n: usize = 0;
+    while LIMIT <= space.len() - n {
+        if strict::is_enough(&space[0..n]) {
+            return n;
         }
+        let more = read_piece(space, n);
+        if more == 0 {
+            return n;
+        }
+        n += more;
     }
+    n
 }
 
-fn line_end(input: &[u8]) -> usize {
-    let end = bytes::skip_to_quote(input, Place(0), b'\n');
-    end.0
-}
-
-fn show_line(input: &[u8]) {
-    let end = line_end(input);
-    if end <= input.len() {
-        show(&input[0..end]);
-    }
-}
-
-// Whether there may be more of a line that the buffer did not end.
+// Whether there may be more of a line.
 fn read_past() -> bool {
-    let mut space = io::large_buffer();
-    let n = io::read_full(STDIN_FILENO, &mut space);
-    if n < 65536 {
-        return false;
-    }
-    65536 <= line_end(&space[..n])
+    let mut piece = io::buffer();
+    let n = io::count(libc::read(STDIN_FILENO, &mut piece), &piece);
+    let end = bytes::skip_to_quote(&piece[..n], Place(0), b'\n');
+    (0 < n) & (n <= end.0)
 }
 
 // The turns are counted down from a number that no run uses up: a proved loop ends.
@@ -73,14 +93,24 @@ fn read_past_all() {
     }
 }
 
-// A line that fills the buffer is longer than any text may be: it is refused, and read past.
-fn main() {
-    let mut space = io::large_buffer();
-    let n = io::read_full(STDIN_FILENO, &mut space);
-    if 65536 <= n {
-        if 65536 <= line_end(&space[..n]) {
-            read_past_all();
+// A line over the limit is answered before it has ended, and then read past: who writes it can write it to its end.
+fn show(input: &[u8]) {
+    match strict::asked(input) {
+        ColorAnswer::Value(c) => print_answer(0, 0, c),
+        ColorAnswer::Refused(r) => {
+            print_refusal(r);
+            let end = bytes::skip_to_quote(input, Place(LIMIT), b'\n');
+            if (r.number == TOO_LONG) & (input.len() <= end.0) {
+                read_past_all();
+            }
         }
     }
-    show_line(&space[..n]);
+}
+
+fn main() {
+    let mut space = io::large_buffer();
+    let n = read_enough(&mut space);
+    if n <= space.len() {
+        show(&space[0..n]);
+    }
 }
