@@ -207,6 +207,11 @@ void homeludaf_filter_next(const uint8_t *text, size_t length, size_t place, str
  * here, or, where it is not written so, the code 18 and the position of the first character, or of the end, at which no such text, however long, can go on. */
 void homeludaf_strict(const uint8_t *text, size_t length, struct homeludaf_answer *answer);
 
+/* What the program swatch reads. The first line is the input up to a line feed, or all of it. If it is `read=loose` or `read=strict`, to the letter and
+ * without a return, the text is the next line, the empty one where there is none, by homeludaf_color or homeludaf_strict. Any other first line is the text, by
+ * homeludaf_strict: another word after `read=` is 5. Positions, places and the limit count in the text's own line, and no line after it is looked at. */
+void homeludaf_asked(const uint8_t *input, size_t length, struct homeludaf_answer *answer);
+
 /* Whose text paints an element, its own or its parent's, and which part of it: all that trimming leaves. An own text that is empty after trimming, as that of an
  * attribute that is not there, or that reads `inherit`, chooses the parent's; a parent's that is not chosen is not looked at. A chosen parent's text that
  * is itself empty or `inherit` gives HOMELUDAF_WHOSE_HIGHER and an empty part: ask again with an empty own text and with the next ancestor's as the parent's.

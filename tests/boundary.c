@@ -345,6 +345,54 @@ static void house_limit(void)
     expect("strict past the limit", tells(&a, HOMELUDAF_TEXT_TOO_LONG, 0, 0) && a.position == 0 && unused(&a, 0));
 }
 
+/* Inputs of swatch: the line that is read, and by which call. */
+static const struct {
+    struct text input, line;
+    whole_call *call;
+    uint64_t code;
+} asked_told[] = {
+    { TEXT_OF("red"), TEXT_OF("red"), homeludaf_strict, 0 },
+    { TEXT_OF("rgb(20%,50,20%)\nred\n"), TEXT_OF("rgb(20%,50,20%)"), homeludaf_strict, 18 },
+    { TEXT_OF("read=loose\nrgb(20%,50,20%)\nred"), TEXT_OF("rgb(20%,50,20%)"), homeludaf_color, 0 },
+    { TEXT_OF("read=strict\n#1234"), TEXT_OF("#1234"), homeludaf_strict, 18 },
+    { TEXT_OF("read=strict\nread=loose\nred"), TEXT_OF("read=loose"), homeludaf_strict, 5 },
+    { TEXT_OF("read=loose"), TEXT_OF(""), homeludaf_color, 4 },
+    { TEXT_OF("read=strict\n\nred"), TEXT_OF(""), homeludaf_strict, 4 },
+    { TEXT_OF("\nread=loose\nred"), TEXT_OF(""), homeludaf_strict, 4 },
+    { TEXT_OF("read=Loose\nred"), TEXT_OF("read=Loose"), homeludaf_strict, 5 },
+    { TEXT_OF("read=loose\r\nred"), TEXT_OF("read=loose\r"), homeludaf_strict, 5 },
+    { TEXT_OF("read=\xff\nred"), TEXT_OF("read=\xff"), homeludaf_strict, 2 },
+    { TEXT_OF("read=loose\nred\xff"), TEXT_OF("red\xff"), homeludaf_color, 2 },
+    { TEXT_OF("read=loose\nred)"), TEXT_OF("red)"), homeludaf_color, 6 },
+};
+
+static void asked_lines(void)
+{
+    for (size_t i = 0; i < COUNT(asked_told); i++) {
+        struct homeludaf_answer a, b;
+        memset(&a, 0xff, sizeof a);
+        memset(&b, 0xa5, sizeof b);
+        homeludaf_asked((const uint8_t *)asked_told[i].input.at, asked_told[i].input.length, &a);
+        asked_told[i].call((const uint8_t *)asked_told[i].line.at, asked_told[i].line.length, &b);
+        expect(asked_told[i].input.at, a.code == asked_told[i].code && memcmp(&a, &b, sizeof a) == 0);
+    }
+}
+
+/* The limit counts in the text's own line. */
+static void asked_limit(void)
+{
+    static char wide[11 + 4097];
+    struct homeludaf_answer a;
+    memset(wide, ' ', sizeof wide);
+    memcpy(wide, "read=loose\n", 11);
+    memset(&a, 0xff, sizeof a);
+    homeludaf_asked((const uint8_t *)wide, 11 + 4096, &a);
+    expect("asked at the limit", tells(&a, HOMELUDAF_UNEXPECTED_END, 4096, 4096) && unused(&a, 0));
+    memset(&a, 0xff, sizeof a);
+    homeludaf_asked((const uint8_t *)wide, 11 + 4097, &a);
+    expect("asked past the limit", tells(&a, HOMELUDAF_TEXT_TOO_LONG, 0, 0) && unused(&a, 0));
+}
+
 /* The stretch of each refusal that a whole text can have, and of values none. */
 static const struct {
     whole_call *call;
@@ -751,6 +799,8 @@ int main(void)
     house_rules();
     house_refusals();
     house_limit();
+    asked_lines();
+    asked_limit();
     whole_stretches();
     step_stretches();
     other_stretches();

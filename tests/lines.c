@@ -2,7 +2,7 @@
  *
  *     lines base        the cases of the program `replay`, with the same answers: 9 for 22, 10 for 23 and 24
  *     lines             these with every refusal's own number and its stretch and with how a length's and an angle's number was written, and
- *                       the strict reading and the writers of colours (document 02)
+ *                       the strict reading, the program `swatch` and the writers of colours (document 02)
  *
  * A case is a call and its operands, one space between: a text is its bytes, two lower-case hex digits each, `-` for none; a number is decimal.
  * A line that is no case gets the answer `?` alone. */
@@ -188,6 +188,19 @@ static void answer_strict(const struct operands *o)
     put_channels(a.result.color);
 }
 
+/* What the program swatch prints, from the call that it is made of. */
+static void answer_swatch(const struct operands *o)
+{
+    char out[80];
+    struct homeludaf_answer a = unfilled();
+    homeludaf_asked(o->texts[0].at, o->texts[0].length, &a);
+    const struct homeludaf_rgba c = a.result.color;
+    snprintf(out, sizeof out, "code=%" PRIu64 "\nat=%" PRIu64 "\nrgba=%" PRIu64 ",%" PRIu64 ",%" PRIu64 ",%" PRIu64 "\n", a.code,
+             a.code == HOMELUDAF_NOT_UTF8 ? a.place : a.position, c.red, c.green, c.blue, c.alpha);
+    for (const char *at = out; *at; at++)
+        printf("%02x", (unsigned)*at);
+}
+
 static void answer_length(const struct operands *o)
 {
     struct homeludaf_answer a = unfilled();
@@ -342,6 +355,7 @@ static const struct call base_calls[] = {
 
 static const struct call later_calls[] = {
     { "strict", "t", answer_strict },
+    { "swatch", "t", answer_swatch },
     { "hex", "fscccc", answer_hex },
     { "keyword", "scccc", answer_keyword },
 };

@@ -18,6 +18,7 @@ ghost use Rattle.paint.specs.Answers as paints;
 ghost use Rattle.set_back.specs.Answers.{hexAnswer, keywordOf, keywordAnswer};
 ghost use Rattle.set_back.specs.Texts.{hexText};
 ghost use Rattle.strict.specs.Answer.{strictFromStr};
+ghost use Rattle.strict.specs.Asked.{askedOf};
 use bytes::Place;
 use color::Color;
 use paint::PaintAnswer;
@@ -37,6 +38,14 @@ pub extern "C" fn homeludaf_strict(text: &[u8], answer: &mut [u64; 24])
     ensures { λ _. ⌜ now (answer .exit) ≡ colorRecord (strictFromStr (now (text .entry))) ⌝ }
 {
     records::write_color(answer, strict::from_str(text));
+}
+
+// The reading that a first line asks for: what the program swatch reads.
+#[no_mangle]
+pub extern "C" fn homeludaf_asked(input: &[u8], answer: &mut [u64; 24])
+    ensures { λ _. ⌜ now (answer .exit) ≡ colorRecord (askedOf (now (input .entry))) ⌝ }
+{
+    records::write_color(answer, strict::asked(input));
 }
 
 // A colour as one number. It comes back in a register, and the record is filled for a refusal alone.
