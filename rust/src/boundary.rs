@@ -13,6 +13,7 @@ extern "C" {
     fn homeludaf_color_packed(text: *const u8, length: usize, answer: *mut u64) -> u64;
     fn homeludaf_paint_packed(text: *const u8, length: usize, answer: *mut u64) -> u64;
     fn homeludaf_strict(text: *const u8, length: usize, answer: *mut u64);
+    fn homeludaf_asked(input: *const u8, length: usize, answer: *mut u64);
     fn homeludaf_length(text: *const u8, length: usize, answer: *mut u64);
     fn homeludaf_angle(text: *const u8, length: usize, answer: *mut u64);
     fn homeludaf_iri(text: *const u8, length: usize, answer: *mut u64);
@@ -107,6 +108,7 @@ macro_rules! calls {
 
 calls! {
     strict => homeludaf_strict,
+    asked => homeludaf_asked,
     length => homeludaf_length,
     angle => homeludaf_angle,
     iri => homeludaf_iri,

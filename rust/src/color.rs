@@ -124,8 +124,28 @@ impl Color {
     ///
     /// [CSS Color 3]: https://www.w3.org/TR/css-color-3/
     pub fn read_strict(text: &str) -> Result<Self, Refusal> {
-        let mut room = Room::new();
-        let record = boundary::strict(text, &mut room);
+        Self::recorded(text, boundary::strict(text, &mut Room::new()))
+    }
+
+    /// Parses what the program `swatch` reads: a colour by the reading that a first line asks for.
+    ///
+    /// The first line is the input up to a line feed, or all of it. Where it is `read=loose` or
+    /// `read=strict`, to the letter and without a return, the text is the next line, the empty one where
+    /// there is none, by [`Color::read`] or [`Color::read_strict`]. Any other first line is the text, by
+    /// `read_strict`. No line after the text is looked at. A refusal counts in the text's own line.
+    ///
+    /// ```
+    /// use homeludaf::Color;
+    ///
+    /// let text = "rgb(20%,50,20%)";
+    /// assert_eq!(Color::read_asked(text).unwrap_err().position, 11);
+    /// assert_eq!(Color::read_asked(&format!("read=loose\n{text}")), Color::read(text));
+    /// ```
+    pub fn read_asked(input: &str) -> Result<Self, Refusal> {
+        Self::recorded(input, boundary::asked(input, &mut Room::new()))
+    }
+
+    fn recorded(text: &str, record: &Record) -> Result<Self, Refusal> {
         if record.is_refused() {
             return Err(Refusal::of(record, text));
         }

@@ -15,9 +15,10 @@
 //! whole [`Refusal`] in the place of an error, with the stretch of the text that is refused, and shows
 //! it in a sentence; `written`, of lengths, their lists and angles, which also tells whether the number
 //! was written whole, and where it ended: [`Written`]; [`Color::read_strict`], which reads a colour by
-//! the house rules for new artwork, as CSS Color 3 writes it; a colour as text, by [`Color::hex`],
-//! [`Color::hex_short`] and [`Color::keyword`]; and whose text paints an element where its own is
-//! empty or `inherit`, by [`inherited()`] and [`inherited_from`].
+//! the house rules for new artwork, as CSS Color 3 writes it; [`Color::read_asked`], which reads what
+//! the program `swatch` does; a colour as text, by [`Color::hex`], [`Color::hex_short`] and
+//! [`Color::keyword`]; and whose text paints an element where its own is empty or `inherit`, by
+//! [`inherited()`] and [`inherited_from`].
 //!
 //! ```
 //! use homeludaf::Color;
