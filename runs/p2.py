@@ -176,17 +176,7 @@ def limits():
 def damaged(r):
     words, call, before, after = r.choice(FRAMES)
     text = bytearray(raw(before) + b"".join(raw(r.choice(words)) for _ in range(r.randint(0, 5))) + raw(after))
-    for _ in range(r.randint(0, 3)):
-        i = r.randint(0, len(text))
-        what = r.random()
-        if what < 0.4:
-            text[i:i + 1] = r.choice(PUT)
-        elif what < 0.8:
-            text[i:i] = r.choice(PUT)
-        elif what < 0.9:
-            del text[i:i + 1]
-        else:
-            del text[i:]
+    statement.damage(r, text, PUT, r.randint(0, 3), (0.4, 0.8, 0.9))
     if r.random() < 0.05:
         text[len(text) // 2:len(text) // 2] = r.choice(ILL)
     if call[-1].isdigit() and r.random() < 0.3:

@@ -143,17 +143,7 @@ def damaged(r):
         words, call, before, after = r.choice(FRAMES)
         text = raw(before) + b"".join(raw(r.choice(words)) for _ in range(r.randint(1, 5))) + raw(after)
     text = bytearray(raw(text))
-    for _ in range(r.choice([0, 0, 1, 1, 2, 3])):
-        i = r.randint(0, len(text))
-        what = r.random()
-        if what < 0.3:
-            text[i:i + 1] = r.choice(PUT)
-        elif what < 0.8:
-            text[i:i] = r.choice(PUT)
-        elif what < 0.9:
-            del text[i:i + 1]
-        else:
-            del text[i:]
+    statement.damage(r, text, PUT, r.choice([0, 0, 1, 1, 2, 3]), (0.3, 0.8, 0.9))
     if r.random() < 0.03:
         text[len(text) // 2:len(text) // 2] = r.choice(ILL)
     if call.startswith("lengths") and r.random() < 0.6:

@@ -282,16 +282,7 @@ def made(r, f):
 
 def damaged(r, text):
     text = bytearray(text)
-    for _ in range(r.choice([1, 1, 1, 2, 2, 3])):
-        i, what = r.randint(0, len(text)), r.random()
-        if what < 0.3:
-            text[i:i + 1] = r.choice(PUT)
-        elif what < 0.65:
-            text[i:i] = r.choice(PUT)
-        elif what < 0.95:
-            del text[i:i + 1]
-        else:
-            del text[i:]
+    statement.damage(r, text, PUT, r.choice([1, 1, 1, 2, 2, 3]), (0.3, 0.65, 0.95))
     return bytes(text)
 
 

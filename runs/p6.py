@@ -105,15 +105,7 @@ def limits():
 
 def damaged(r):
     text = bytearray(b"".join(raw(r.choice(WORDS[:12] + LONGER)) for _ in range(r.randint(0, 3))))
-    for _ in range(r.choice([0, 0, 1, 1, 2, 3])):
-        i = r.randint(0, len(text))
-        what = r.random()
-        if what < 0.3:
-            text[i:i + 1] = r.choice(PUT)
-        elif what < 0.8:
-            text[i:i] = r.choice(PUT)
-        else:
-            del text[i:i + 1]
+    statement.damage(r, text, PUT, r.choice([0, 0, 1, 1, 2, 3]), (0.3, 0.8, 1))
     return bytes(text)
 
 

@@ -1,4 +1,4 @@
-"""What the statements apart from the program (p2.py, p3.py, p6.py, p8.py) have in common: their modes, and how a sample is chosen."""
+"""What the statements apart from the program (p2.py, p3.py, p4.py, p6.py, p8.py) have in common: their modes, how a sample is chosen, and how a text is damaged."""
 import collections
 import itertools
 import random
@@ -34,6 +34,20 @@ def sample(by_hand, kinds, cases_path, answers_path, count, seed, cases_out, ans
             a.write(pairs[i][0] + "\n")
             b.write(pairs[i][1] + "\n")
     return 0
+
+
+def damage(r, text, put, times, shares):
+    """text, a bytearray, damaged so many times: by shares of 1 a byte is replaced by one of put, one is put in, one is cut, or all behind one is."""
+    for _ in range(times):
+        i, what = r.randint(0, len(text)), r.random()
+        if what < shares[0]:
+            text[i:i + 1] = r.choice(put)
+        elif what < shares[1]:
+            text[i:i] = r.choice(put)
+        elif what < shares[2]:
+            del text[i:i + 1]
+        else:
+            del text[i:]
 
 
 def run(doc, modes):

@@ -3,7 +3,6 @@ use Prim.Native.Nat.{ℕ, _+_, _-_}
 use mathlib.Core.Bool.{Bool, true, false, cond}
 use mathlib.Core.List.{List}
 use mathlib.Core.Path.{_≡_, refl, sym, _∙_}
-use native.Mathlib.Omega.{arith}
 use borrow.Author.Tests.{lt-leb}
 use lib.Dec.{eqb, leb, ltb}
 use lib.Ieee.{Float}
@@ -17,7 +16,6 @@ use Rattle.bytes.specs.declared.Place.{Place}
 use Rattle.bytes.proofs.Ranges.{either}
 use Rattle.stream.specs.Faults.{consumeByte}
 use Rattle.stream.specs.Moves.{thenConsumed}
-use Rattle.stream.specs.declared.Fault.{Fault}
 use Rattle.numbers.specs.Moves.{thenNumber}
 use Rattle.numbers.specs.Number.{parseNumber, parseListNumber, parseListNumberOrPercent}
 use Rattle.numbers.specs.declared.Number.{Number}
@@ -29,6 +27,7 @@ use Rattle.color.specs.Color.{closeBracket, parseAlpha, rgbMarked, rgbPlain, af
 use Rattle.color.specs.declared.Color.{Color}
 use Rattle.color.specs.declared.ColorRead.{ColorRead}
 use Rattle.color.specs.declared.ColorRead.the-variants as C
+use Rattle.strict.proofs.Answers.{never-read}
 use Rattle.capitals.proofs.Cases.{Caseless, byte-case, by-values, space-case, hex-case, word-case, byte-alike, length-alike, scan-alike, part-alike, curr-alike}
 use Rattle.capitals.proofs.Numbers.{isE, neither, Keeps, numbers, list-numbers, list-percents, separator-alike, e-inside, e-scan, e-curr, e-separator}
 
@@ -39,9 +38,6 @@ pub record Kept (x y : ColorRead) : Type 0 where
 -- x accepts nothing
 abbrev Shut : ColorRead → Type 0
 Shut x = (c : Color) (p : Place) → x ≡ C.Value c p → ⊥
-
-no-colour : {A : Type 0} {e : Fault} {c : Color} {p : Place} → C.Refused e ≡ C.Value c p → A
-no-colour q = absurd (let z : _≡_ {A = ℕ} 0 1 = cc in omega arith)
 
 kept-equal : {x y : ColorRead} → y ≡ x → Kept x y
 kept-equal e = record { same = λ c p q. e ∙ q }
@@ -56,9 +52,9 @@ module _ (s t : List ℕ) (h : lowered s ≡ lowered t) where
       → Kept (thenConsumed C.Refused (consumeByte s i c) k) (thenConsumed C.Refused (consumeByte t i c) m)
   unfolding consumeByte
   kept-byte i c f k m g =
-      either (leb (length s) i) (λ a. record { same = λ d p q. no-colour (simp a at q) })
+      either (leb (length s) i) (λ a. record { same = λ d p q. never-read (simp a at q) })
       (λ a. either (eqb (getD s i 0) c) (λ b. simp (length-alike s t h, byte-alike s t h (λ x. eqb x c) f i, a, b) (g (place (i + 1))))
-      (λ b. record { same = λ d p q. no-colour (simp (a, b) at q) }))
+      (λ b. record { same = λ d p q. never-read (simp (a, b) at q) }))
 
   -- a number, and what is read after it: that is shut where an `e` stands
   module _ (x y : ℕ → NumberRead) (w : Keeps s x y) (i : ℕ) (k : Number → Place → ColorRead) where
@@ -67,7 +63,7 @@ module _ (s t : List ℕ) (h : lowered s ≡ lowered t) where
     kept-number m f g = record { same = λ c p q. go c p (x i) refl q }
       where
         go : (c : Color) (p : Place) (z : NumberRead) → x i ≡ z → thenNumber C.Refused (x i) k ≡ C.Value c p → thenNumber C.Refused (y i) m ≡ C.Value c p
-        go c p (N.Refused e) r q = no-colour (simp r at q)
+        go c p (N.Refused e) r q = never-read (simp r at q)
         go c p (N.Value n j) r q =
             let v : k n j ≡ C.Value c p = simp r at q in
             either (isE (getD s (j .0) 0)) (λ e. absurd (f n j e c p v)) (λ e. simp (w .same i n j r e) (g n j .same c p v))
@@ -76,7 +72,7 @@ module _ (s t : List ℕ) (h : lowered s ≡ lowered t) where
     shut-number e c p q = go (x i) refl
       where
         go : (z : NumberRead) → x i ≡ z → ⊥
-        go (N.Refused f) r = no-colour (simp r at q)
+        go (N.Refused f) r = never-read (simp r at q)
         go (N.Value n j) r = w .none i n j e r
 
   -- the closing bracket, and the alpha before it
@@ -89,7 +85,7 @@ module _ (s t : List ℕ) (h : lowered s ≡ lowered t) where
   close-shut : (i : ℕ) (c : Color) → isE (getD s i 0) ≡ true → Shut (closeBracket s i c)
   unfolding closeBracket bind consumeByte
   close-shut i c e d p q =
-      no-colour (simp (e-scan s i e, lt-leb (length s) i (e-inside s i e), neither 101 69 (λ b. eqb b 41) refl refl (getD s i 0) e) at q)
+      never-read (simp (e-scan s i e, lt-leb (length s) i (e-inside s i e), neither 101 69 (λ b. eqb b 41) refl refl (getD s i 0) e) at q)
 
   alpha-kept : (i : ℕ) (c : Color) → Kept (parseAlpha s i c) (parseAlpha t i c)
   unfolding parseAlpha bind
@@ -190,7 +186,7 @@ module _ (s t : List ℕ) (h : lowered s ≡ lowered t) where
   text-kept = record { same = λ c p q. go c p (parseColor s 0) refl q }
     where
       go : (c : Color) (p : Place) (x : ColorRead) → parseColor s 0 ≡ x → parseColorText s ≡ C.Value c p → parseColorText t ≡ C.Value c p
-      go c p (C.Refused e) r q = no-colour (simp r at q)
+      go c p (C.Refused e) r q = never-read (simp r at q)
       go c p (C.Value d j) r q =
-          either (ltb (scan isSpace s (j .0)) (length s)) (λ l. no-colour (simp (r, l) at q))
+          either (ltb (scan isSpace s (j .0)) (length s)) (λ l. never-read (simp (r, l) at q))
           (λ l. simp (colour-kept 0 .same d j r, scan-alike s t h isSpace space-case (j .0), length-alike s t h, l) (simp (r, l) at q))

@@ -2,7 +2,6 @@
 use Prim.Native.Nat.{ℕ}
 use mathlib.Core.List.{List}
 use mathlib.Core.Path.{_≡_, refl, sym, _∙_}
-use native.Mathlib.Omega.{arith}
 use Rattle.bytes.specs.Flow.{bind}
 use Rattle.bytes.proofs.Ranges.{either}
 use Rattle.stream.specs.Refusals.{admitText}
@@ -17,21 +16,19 @@ use Rattle.color.specs.declared.ColorRead.the-variants as C
 use Rattle.color.specs.declared.ColorAnswer.{ColorAnswer}
 use Rattle.color.specs.declared.ColorAnswer.the-variants as A
 use Rattle.strict.specs.Answer.{strictOf, strictFromStr}
+use Rattle.strict.proofs.Answers.{never-value}
 use Rattle.capitals.specs.Capitals.{Alike, Capitals}
 use Rattle.capitals.proofs.Admitted.{admitted-alike}
 use Rattle.capitals.proofs.Colours.{text-kept}
 use Rattle.capitals.proofs.Shaped.{strict-alike}
-
-no-value : {X : Type 0} {e : Refusal} {c : Color} → A.Refused e ≡ A.Value c → X
-no-value q = absurd (let z : _≡_ {A = ℕ} 0 1 = cc in omega arith)
 
 loose : (s t : List ℕ) (c : Color) → Alike s t → fromStr s ≡ A.Value c → fromStr t ≡ A.Value c
 unfolding fromStr
 loose s t c h q = go (admitText s) refl (parseColorText s) refl
   where
     go : (m : Admission) → admitText s ≡ m → (x : ColorRead) → parseColorText s ≡ x → fromStr t ≡ A.Value c
-    go (M.Refused e) f x g = no-value (simp f at q)
-    go M.Admitted f (C.Refused e) g = no-value (simp (f, g) at q)
+    go (M.Refused e) f x g = never-value (simp f at q)
+    go M.Admitted f (C.Refused e) g = never-value (simp (f, g) at q)
     go M.Admitted f (C.Value d p) g = simp (admitted-alike s t h, f, text-kept s t h .same d p g) (simp (f, g) at q)
 
 strict : (s t : List ℕ) (c : Color) → Alike s t → strictFromStr s ≡ A.Value c → strictFromStr t ≡ A.Value c
@@ -39,9 +36,9 @@ unfolding strictFromStr bind
 strict s t c h q = go (fromStr s) refl
   where
     go : (x : ColorAnswer) → fromStr s ≡ x → strictFromStr t ≡ A.Value c
-    go (A.Refused e) f = no-value (simp f at q)
+    go (A.Refused e) f = never-value (simp f at q)
     go (A.Value d) f =
-        either (strictOf s .whole) (λ w. simp (loose s t d h f, strict-alike s t h, w) (simp (f, w) at q)) (λ w. no-value (simp (f, w) at q))
+        either (strictOf s .whole) (λ w. simp (loose s t d h f, strict-alike s t h, w) (simp (f, w) at q)) (λ w. never-value (simp (f, w) at q))
 
 -- an answer is a value or a refusal: what refuses the one text cannot accept the other
 module _ (read : List ℕ → ColorAnswer) (kept : (s t : List ℕ) (c : Color) → Alike s t → read s ≡ A.Value c → read t ≡ A.Value c) where
@@ -49,7 +46,7 @@ module _ (read : List ℕ → ColorAnswer) (kept : (s t : List ℕ) (c : Color) 
   refused s t e h q = go (read t) refl
     where
       go : (x : ColorAnswer) → read t ≡ x → (f : Refusal) × (read t ≡ A.Refused f)
-      go (A.Value c) r = no-value (sym q ∙ kept t s c (sym h) r)
+      go (A.Value c) r = never-value (sym q ∙ kept t s c (sym h) r)
       go (A.Refused f) r = (f, r)
 
 pub capitals : Capitals

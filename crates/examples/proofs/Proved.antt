@@ -63,6 +63,9 @@ unfolding colors.fromStr hasQuote isLink closeLink closeQuote quotedLink plainLi
 shut =
     record {
       alpha = refl;
+      no-alpha = refl;
+      tan = refl;
+      by-default = refl;
       hue = refl;
       bracket = refl;
       quoted = refl;

@@ -24,15 +24,22 @@ use Rattle.inherit.specs.declared.Inheritance.the-variants as I
 use Rattle.inherit.specs.declared.Whose.the-variants as O
 use Rattle.filter_functions.specs.Filters.{nextFilter}
 use Rattle.filter_functions.specs.declared.FilterStep.the-variants as F
+use Rattle.filter_functions.specs.declared.FilterValue.the-variants as G
 use Rattle.set_back.specs.Answers.{hexAnswer, keywordAnswer}
 use Rattle.set_back.specs.Texts.{hexText}
 use Rattle.set_back.specs.declared.SetBack.the-variants as H
 use Rattle.length.specs.declared.LengthUnit.the-variants as U
-use Rattle.examples.specs.Examples.{refusal, plain, two}
+use Rattle.examples.specs.Examples.{refusal, plain, one, two}
 
 pub record Shut : Type 0 where
   -- an alpha is taken times 255, and not times 1
   pub alpha : colors.fromStr (ascii "rgba(0,0,0,0.5)") ≡ C.Value (rgba 0 0 0 128)
+  -- a hex colour with no alpha is opaque
+  pub no-alpha : colors.fromStr (ascii "#123") ≡ C.Value (rgba 17 34 51 255)
+  -- a keyword's channels are its own line's
+  pub tan : colors.fromStr (ascii "tan") ≡ C.Value (rgba 210 180 140 255)
+  -- a plain filter function with nothing in its brackets is of 1, and not of 0
+  pub by-default : nextFilter (ascii "brightness()") 0 ≡ F.Value (G.Brightness one) (place 12)
   -- a hue is turned by 360 degrees, and not by 180
   pub hue : colors.fromStr (ascii "hsl(120,100%,50%)") ≡ C.Value (rgba 0 255 0 255)
   -- a link of `#` alone goes on past a bracket

@@ -16,7 +16,7 @@ use Rattle.standards.specs.Rfc3629.{Octet, Char, utf8-1, octets, text, s
 use Rattle.standards.specs.Unicode.{isWhite, white, endsWhite}
 use Rattle.standards.specs.CssValues3.{Blank, space, tab, line-feed, return, blank, blanks}
 use Rattle.standards.proofs.Runs.{Ascii, ascii-append, ascii-rest, ascii-byte, blanks-ascii}
-use Rattle.standards.proofs.Trim.{white1, allWhite, beginsWhite, text-append, trim-start-is, trim-end-is}
+use Rattle.standards.proofs.Trim.{white1, allWhite, beginsWhite, text-append, trim-start-is, trim-end-is, ends-append}
 use Rattle.standards.proofs.Trim as T
 use Rattle.standards.proofs.Utf8.{Written, utf8-accepts}
 
@@ -123,12 +123,6 @@ pub clean-end : (cs : List Char) → endsWhite cs ≡ false → trimEnd (text cs
 unfolding allWhite
 clean-end cs e = rw append-nil at (trim-end-is cs [] e refl)
 
-ends-last : (cs : List Char) (d : Char) (ds : List Char) → endsWhite (cs ++ (d ∷ ds)) ≡ endsWhite (d ∷ ds)
-unfolding endsWhite
-ends-last [] d ds = refl
-ends-last (c ∷ []) d ds = refl
-ends-last (c ∷ b ∷ cs) d ds = ends-last (b ∷ cs) d ds
-
 -- a text is clean where its two ends are
 pub clean-around : {a m w : List ℕ} → Clean a → Written m → Clean w → Clean (a ++ (m ++ w))
 clean-around {a} {m} {w} t e u =
@@ -137,7 +131,7 @@ clean-around {a} {m} {w} t e u =
       others = t .others ++ (e .chars ++ (u .first ∷ u .others));
       same = text-append (t .first ∷ t .others) (e .chars ++ (u .first ∷ u .others)) ∙ rw (t .same, text-append (e .chars) (u .first ∷ u .others), e .same, u .same);
       bare-start = t .bare-start;
-      bare-end = rw (← append-assoc) (ends-last (t .first ∷ t .others ++ e .chars) (u .first) (u .others) ∙ u .bare-end);
+      bare-end = rw (← append-assoc) (ends-append (t .first ∷ t .others ++ e .chars) (u .first) (u .others) ∙ u .bare-end);
     }
 
 -- ASCII is of characters, and so is what is joined of them

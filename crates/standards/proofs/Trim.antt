@@ -245,7 +245,8 @@ trim-is cs p = ap (λ l. trimOf (text l)) (p .whole) ∙ go (p .before) (p .midd
     go b (c ∷ cs) a u v w x =
         rw (trim-start-is b (c ∷ cs ++ a) u v, text-append b (c ∷ cs ++ a), drop-append-seam, trim-end-is (c ∷ cs) a w x, text-append (c ∷ cs) a, take-append-seam)
 
-ends-append : (a : List Char) (c : Char) (cs : List Char) → endsWhite (a ++ (c ∷ cs)) ≡ endsWhite (c ∷ cs)
+-- how a text ends is told by its last characters
+pub ends-append : (a : List Char) (c : Char) (cs : List Char) → endsWhite (a ++ (c ∷ cs)) ≡ endsWhite (c ∷ cs)
 unfolding endsWhite
 ends-append [] c cs = refl
 ends-append (d ∷ []) c cs = refl

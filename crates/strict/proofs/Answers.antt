@@ -9,6 +9,7 @@ use Rattle.stream.specs.Refusals.{admitText}
 use Rattle.stream.specs.declared.Admission.{Admission}
 use Rattle.stream.specs.declared.Admission.the-variants as M
 use Rattle.bytes.specs.declared.Place.{Place}
+use Rattle.stream.specs.declared.Fault.{Fault}
 use Rattle.stream.specs.declared.Refusal.{Refusal}
 use Rattle.utf8.specs.declared.Utf8.the-variants.{WellFormed}
 use Rattle.bytes.specs.Scan.{scan}
@@ -17,6 +18,8 @@ use native.Mathlib.Omega.{arith}
 use Rattle.stream.proofs.Edges.{admitted-small, admitted-utf8}
 use Rattle.color.specs.Answer.{fromStr}
 use Rattle.color.specs.declared.Color.{Color}
+use Rattle.color.specs.declared.ColorRead.the-variants as C
+use Rattle.color.proofs.Steps.{answer-refused}
 use Rattle.color.specs.declared.ColorAnswer.{ColorAnswer}
 use Rattle.color.specs.declared.ColorAnswer.the-variants as A
 use Rattle.shapes.specs.Walk.{walk}
@@ -46,8 +49,12 @@ module _ {B : Type 0} (x : B) (out : Refusal → B) (t r : ColorAnswer) (k : Col
   pub answer-out : (e : Refusal) → r ≡ A.Refused e → x ≡ out e → x ≡ thenAnswer out t k
   answer-out e f h = rw (← q, f) h
 
-pub refused-is : {e f : Refusal} → e ≡ f → A.Refused e ≡ A.Refused f
-refused-is h = rw h
+-- a refusal is no colour, answered or read
+pub never-value : {Z : Type 0} {e : Refusal} {c : Color} → A.Refused e ≡ A.Value c → Z
+never-value q = never (let z : false ≡ true = cc in z)
+
+pub never-read : {Z : Type 0} {e : Fault} {c : Color} {p : Place} → C.Refused e ≡ C.Value c p → Z
+never-read q = never (let z : false ≡ true = cc in z)
 
 -- what is read is UTF-8
 pub value-good : (s : List ℕ) {r : ColorAnswer} {c : Color} → r ≡ fromStr s → r ≡ A.Value c → utf8Of s ≡ WellFormed
@@ -56,7 +63,7 @@ value-good s {c} q e = go (admitText s) refl (sym q ∙ e)
   where
     go : (m : Admission) → admitText s ≡ m → fromStr s ≡ A.Value c → utf8Of s ≡ WellFormed
     go M.Admitted f g = admitted-utf8 s (sym f) refl
-    go (M.Refused x) f g = never (let h : A.Refused x ≡ A.Value c = rw f at g in let z : false ≡ true = cc in z)
+    go (M.Refused x) f g = never-value (rw f at g)
 
 pub value-small : (s : List ℕ) {r : ColorAnswer} {c : Color} → r ≡ fromStr s → r ≡ A.Value c → length s ≤ 4096
 unfolding fromStr
@@ -64,9 +71,9 @@ value-small s {c} q e = go (admitText s) refl (sym q ∙ e)
   where
     go : (m : Admission) → admitText s ≡ m → fromStr s ≡ A.Value c → length s ≤ 4096
     go M.Admitted f g = admitted-small s (sym f) refl
-    go (M.Refused x) f g = never (let h : A.Refused x ≡ A.Value c = rw f at g in let z : false ≡ true = cc in z)
+    go (M.Refused x) f g = never-value (rw f at g)
 
 pub scan-small : (p : ℕ → Bool) (s : List ℕ) (e : ℕ) → e ≡ scan p s 0 → length s ≤ 4096 → e ≤ 4096
 scan-small p s e q h = omega (arith, scan-le p s 0 (omega arith))
 
-pub ruleset answered = (answer-value, answer-out, refused-is)
+pub ruleset answered = (answer-value, answer-out, answer-refused)

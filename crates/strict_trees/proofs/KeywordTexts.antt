@@ -22,8 +22,6 @@ use Rattle.bytes.proofs.Wording.{same-eq}
 use Rattle.stream.specs.Refusals.{admitText}
 use Rattle.stream.specs.declared.Admission.{Admission}
 use Rattle.stream.specs.declared.Admission.the-variants as M
-use Rattle.stream.specs.declared.Fault.{Fault}
-use Rattle.stream.specs.declared.Refusal.{Refusal}
 use Rattle.names.specs.Keywords as own
 use Rattle.names.specs.Look.{lookUp, namedOf}
 use Rattle.names.specs.declared.Named as named
@@ -38,6 +36,7 @@ use Rattle.color.specs.declared.ColorRead.{ColorRead}
 use Rattle.color.specs.declared.ColorRead.the-variants as C
 use Rattle.color.specs.declared.ColorAnswer.the-variants as A
 use Rattle.strict.specs.Answer.{marked, markedAt, isShaped}
+use Rattle.strict.proofs.Answers.{never-value, never-read}
 use Rattle.shapes.proofs.Fair.{never}
 use Rattle.standards.specs.Written.{ascii}
 use Rattle.standards.specs.CssValues3.{Blank, blank, blanks}
@@ -77,9 +76,6 @@ found (e ∷ es) w =
 -- a keyword's letters, or those of `transparent`
 abbrev Named : List ℕ → Type 0
 Named w = ((k : ℕ) × ((k < length own.keywords) × (at own.keywords k .name ≡ lowered w))) ⊎ (lowered w ≡ words.ascii "transparent")
-
-never-read : {Z : Type 0} {e : Fault} {c : Color} {p : Place} → C.Refused e ≡ C.Value c p → Z
-never-read q = never (let z : false ≡ true = cc in z)
 
 named-read : (w : List ℕ) (n : ℕ) (c : Color) (p : Place) → namedColor w n ≡ C.Value c p → Named w × (p ≡ place n)
 unfolding namedColor
@@ -218,10 +214,7 @@ word-strict s c e q =
     let u : markedAt (p .1) 0 ≡ false = sym (shaped-after (p .0) (p .1) (p .3)) ∙ (sym (ap isShaped (p .2)) ∙ e) in
     go (admitText s) refl (parseColorText s) refl (λ c i h. text-strict s (p .0) (p .1) (p .2) (p .3) u c i h)
   where
-    never-answered : {Z : Type 0} {x : Refusal} → A.Refused x ≡ A.Value c → Z
-    never-answered h = never (let z : false ≡ true = cc in z)
-
     go : (a : Admission) → admitText s ≡ a → (y : ColorRead) → parseColorText s ≡ y → ((c : Color) (i : Place) → parseColorText s ≡ C.Value c i → Strict s) → Strict s
-    go (M.Refused x) a y h k = never-answered (simp a at q)
-    go M.Admitted a (C.Refused x) h k = never-answered (simp (a, h) at q)
+    go (M.Refused x) a y h k = never-value (simp a at q)
+    go M.Admitted a (C.Refused x) h k = never-value (simp (a, h) at q)
     go M.Admitted a (C.Value x i) h k = k x i h

@@ -10,12 +10,13 @@ use Rattle.color.specs.declared.Color.{Color}
 use Rattle.color.specs.declared.ColorAnswer.{ColorAnswer}
 use Rattle.color.specs.declared.ColorAnswer.the-variants as A
 use Rattle.strict.specs.Answer.{furthest, nowhere, shapes, isShaped, strictOf, strictFromStr}
+use Rattle.strict.proofs.Answers.{never-value}
 use Rattle.strict.proofs.Furthest.{whole-some}
 use Rattle.standards.proofs.Palette.{channels}
 use Rattle.strict_trees.specs.StrictColors.{Strict}
 use Rattle.strict_trees.specs.HouseRules.{HouseRules}
 use Rattle.strict_trees.proofs.KeywordTexts.{word-strict}
-use Rattle.strict_trees.proofs.Stops.{never-value, same-channels, old-refusal, some-strict, accepts, stops, old-number, stops-at}
+use Rattle.strict_trees.proofs.Stops.{same-channels, old-refusal, some-strict, accepts, stops, old-number, stops-at}
 
 only : (s : List ℕ) (c : Color) → strictFromStr s ≡ A.Value c → Strict s
 unfolding strictFromStr bind strictOf

@@ -28,6 +28,7 @@ use Rattle.color.specs.declared.ColorAnswer.the-variants as A
 use Rattle.shapes.specs.declared.Atom.{Atom}
 use Rattle.strict.specs.Answer.{furthest, nowhere, shapes, marked, isShaped, strictOf, strictFromStr}
 use Rattle.shapes.proofs.Fair.{never}
+use Rattle.strict.proofs.Answers.{never-value}
 use Rattle.strict.proofs.Shaped.{three-well, six-well, rgb-whole-well, rgb-percent-well, rgba-whole-well, rgba-percent-well, hsl-well, hsla-well}
 use Rattle.strict.proofs.Furthest.{Some, All, AllWell, Walks, GoesOn, Stuck, some-whole, all-stuck, some-on}
 use Rattle.standards.specs.CssValues3.{Blank, blanks}
@@ -45,9 +46,6 @@ use Rattle.strict_trees.proofs.Openings.{still-shaped}
 use Rattle.strict_trees.proofs.Hexes.{three-walks, six-walks, three-tree, six-tree}
 
 -- THEOREM. A colour that is answered is the old reading's.
-pub never-value : {C : Type 0} {e : Refusal} {c : Color} → A.Refused e ≡ A.Value c → C
-never-value q = never (let z : false ≡ true = cc in z)
-
 pub same-channels : (s : List ℕ) (c : Color) → strictFromStr s ≡ A.Value c → fromStr s ≡ A.Value c
 unfolding strictFromStr bind
 same-channels s c e = go (fromStr s) refl
