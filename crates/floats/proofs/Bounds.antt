@@ -20,13 +20,19 @@ Within k (fin s m e) = m * up e ≤ 2 ^ k * down e
 
 pub no_nan : (k : ℕ) (x : Float) → Within k x → T (not (is_nan x))
 unfolding is_nan
+no_nan k nan h = elim h [ ]
+no_nan k (inf _) h = elim h [ ]
 no_nan k (fin s m e) h = tt
 
 pub is_finite : (k : ℕ) (x : Float) → Within k x → T (finite x)
+is_finite k nan h = elim h [ ]
+is_finite k (inf _) h = elim h [ ]
 is_finite k (fin s m e) h = tt
 
 pub finite_no_nan : (x : Float) → T (finite x) → T (not (is_nan x))
 unfolding is_nan
+finite_no_nan nan h = elim h [ ]
+finite_no_nan (inf _) h = elim h [ ]
 finite_no_nan (fin s m e) h = tt
 
 -- what fails the test `x != x` is no NaN
@@ -38,13 +44,19 @@ equal_no_nan (fin s m e) h = tt
 
 pub neg_finite : (x : Float) → T (finite x) → T (finite (neg x))
 unfolding neg
+neg_finite nan h = elim h [ ]
+neg_finite (inf _) h = elim h [ ]
 neg_finite (fin s m e) h = tt
 
 pub wider : (j k : ℕ) (x : Float) → j ≤ k → Within j x → Within k x
+wider j k nan l h = elim h [ ]
+wider j k (inf _) l h = elim h [ ]
 wider j k (fin s m e) l h = le_trans h (mul-le-mul_right (down e) (pow_mono l))
 
 pub neg_within : (k : ℕ) (x : Float) → Within k x → Within k (neg x)
 unfolding neg
+neg_within k nan h = elim h [ ]
+neg_within k (inf _) h = elim h [ ]
 neg_within k (fin s m e) h = h
 
 closest_whole : (x : ℕ) → closest x 1 ≡ x
@@ -71,6 +83,8 @@ grid_le f a c K C h =
     le_trans (mul-le-mul_right (2 ^ k) u) (le_of_eq s)
 
 value_within : (x : Float) (s : Bool) (g K l : ℕ) → g ≤ 2 ^ (K + l) → HasValue x s g (2 ^ l) → Within K x
+value_within nan s g K l h v = elim v [ ]
+value_within (inf _) s g K l h v = elim v [ ]
 value_within (fin t m e) s g K l h v =
     le_of_mul-le-mul_right {m = m * up e} {n = 2 ^ K * down e} {k = 2 ^ l}
     (le_trans (le_of_eq v.1) (le_trans (mul-le-mul_right (down e) h) (le_of_eq (ap (λ (x : ℕ). x * down e) (pow-add 2 K l) ∙ mul_right_comm (2 ^ K) (2 ^ l) (down e))))) (pow_pos l)
@@ -96,6 +110,10 @@ int_within f n K E h = round_within f false n 1 K (omega arith) E (le_trans h (l
 
 pub mul_within : (f : Format) (i j : ℕ) (x y : Float) → i + j ≤ emax f → Within i x → Within j y → Within (i + j) (mul f x y)
 unfolding mul
+mul_within f i j nan y E p q = elim p [ ]
+mul_within f i j (inf _) y E p q = elim p [ ]
+mul_within f i j (fin s m e) nan E p q = elim q [ ]
+mul_within f i j (fin s m e) (inf _) E p q = elim q [ ]
 mul_within f i j (fin s m e) (fin t n d) E p q =
     round_within f (unlike s t) (m * up e * (n * up d)) (down e * down d) (i + j) (mul-pos (down_pos e) (down_pos d)) E
     (le_trans (mul-le-mul p q) (le_of_eq (cross (2 ^ i) (down e) (2 ^ j) (down d) ∙ ap (λ (x : ℕ). x * (down e * down d)) (sym (pow-add 2 i j)))))
@@ -111,6 +129,10 @@ some n u d p h e = let z = ap (λ (x : ℕ). x * u) e ∙ zero-mul u in omega ar
 
 pub div_within : (f : Format) (i : ℕ) (x y : Float) → i ≤ emax f → Within i x → AtLeastOne y → Within i (div f x y)
 unfolding div
+div_within f i nan y E p q = elim p [ ]
+div_within f i (inf _) y E p q = elim p [ ]
+div_within f i (fin s m e) nan E p q = elim q [ ]
+div_within f i (fin s m e) (inf _) E p q = elim q [ ]
 div_within f i (fin s m e) (fin t n d) E p q =
     rw (ne_eqb n 0 (some n (up d) (down d) (down_pos d) q))
     (round_within f (unlike s t) (m * up e * down d) (n * up d * down e) i (mul-pos (lt_of_lt_of_le (down_pos d) q) (down_pos e)) E
@@ -130,6 +152,10 @@ sum_within f s a t b c k C E p q = go (beq s t) (ltb a b)
 
 pub add_within : (f : Format) (k : ℕ) (x y : Float) → suc k ≤ emax f → Within k x → Within k y → Within (suc k) (add f x y)
 unfolding add
+add_within f k nan y E p q = elim p [ ]
+add_within f k (inf _) y E p q = elim p [ ]
+add_within f k (fin s m e) nan E p q = elim q [ ]
+add_within f k (fin s m e) (inf _) E p q = elim q [ ]
 add_within f k (fin s m e) (fin t n d) E p q =
     sum_within f s (m * up e * down d) t (n * up d * down e) (down e * down d) k (mul-pos (down_pos e) (down_pos d)) E
     (le_trans (mul-le-mul_right (down d) p) (le_of_eq (mul_assoc (2 ^ k) (down e) (down d))))
@@ -138,6 +164,10 @@ add_within f k (fin s m e) (fin t n d) E p q =
 -- the remainder by y is below y, whatever a finite x is
 pub rem_within : (f : Format) (k : ℕ) (x y : Float) → k ≤ emax f → T (finite x) → AtLeastOne y → Within k y → Within k (rem f x y)
 unfolding rem
+rem_within f k nan y E p q r = elim p [ ]
+rem_within f k (inf _) y E p q r = elim p [ ]
+rem_within f k (fin s m e) nan E p q r = elim q [ ]
+rem_within f k (fin s m e) (inf _) E p q r = elim q [ ]
 rem_within f k (fin s m e) (fin t n d) E p q r =
     let Y = n * up d * down e in
     rw (ne_eqb n 0 (some n (up d) (down d) (down_pos d) q))

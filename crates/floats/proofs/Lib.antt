@@ -1,4 +1,5 @@
 pub mod Rounding
 pub mod Channels
 pub mod Bounds
+pub mod Turns
 pub mod Worked

@@ -4,7 +4,7 @@ use Prim.Native.Nat.{compare, Ordering}
 use lib.Dec.{is_le, compare_is_eq, nleb→lt}
 use lib.Pow.{pow-lt, shl-shr}
 use borrow.Author.Tests.{lt-leb}
-use lib.Ieee.{Float, Format, nan, inf, fin, is_nan, fits, binary32, binary64, prec, low, emax, up, down, size, nearest, odd, units, round, of_fields, to_bits, of_bits}
+use lib.Ieee.{Float, Format, nan, inf, fin, is_nan, fits, binary32, binary64, prec, low, emax, hid, top, up, down, size, nearest, odd, units, round, of_fields, to_bits, of_bits}
 use lib.Arith.{le-zero}
 use lib.Ieee.Digits.{size-lt, size-le}
 use lib.Ieee.Fits.{round_is, down_pos, nearest-le, nan-fits, inf-fits, round-fits}
@@ -38,12 +38,14 @@ round_at s M k j h l =
     ∙ ap (λ (x : ℕ). units binary32 s (closest n (d * 2 ^ x)) x) is-k
     ∙ ap (λ (x : ℕ). units binary32 s x k) (closest_same n (d * 2 ^ k) M (2 ^ j) (mul-pos (pow_pos (149 + j)) (pow_pos k)) (pow_pos j) f)
 
--- the bits of q * 2 ^ k smallest values
-bits_of_value : (v : Float) (s : Bool) (a : ℕ) → HasValue v s a (2 ^ 149) → to_bits binary32 v ≡ cond s (2 ^ 31) 0 + (size a - 24) * 2 ^ 23 + a / 2 ^ (size a - 24)
+-- the bits of a smallest values
+pub bits_of_value : (f : Format) (v : Float) (s : Bool) (a : ℕ) → HasValue v s a (2 ^ low f) → to_bits f v ≡ cond s (top f) 0 + (size a - prec f) * hid f + a / 2 ^ (size a - prec f)
 unfolding to_bits
-bits_of_value (fin t m e) s a h =
-    ap (λ (x : ℕ). cond t (2 ^ 31) 0 + (size x - 24) * 2 ^ 23 + x / 2 ^ (size x - 24)) (ap (λ (x : ℕ). x / down e) h.1 ∙ mul-div_cancel a (down_pos e))
-    ∙ ap (λ (x : Bool). cond x (2 ^ 31) 0 + (size a - 24) * 2 ^ 23 + a / 2 ^ (size a - 24)) h.0
+bits_of_value f nan s a h = elim h [ ]
+bits_of_value f (inf _) s a h = elim h [ ]
+bits_of_value f (fin t m e) s a h =
+    ap (λ (x : ℕ). cond t (top f) 0 + (size x - prec f) * hid f + x / 2 ^ (size x - prec f)) (ap (λ (x : ℕ). x / down e) h.1 ∙ mul-div_cancel a (down_pos e))
+    ∙ ap (λ (x : Bool). cond x (top f) 0 + (size a - prec f) * hid f + a / 2 ^ (size a - prec f)) h.0
 
 -- the whole carry: q may be 2 ^ 24
 fields : (q k c : ℕ) → q ≤ 2 ^ 24 → (0 < k → 2 ^ 23 ≤ q) → c + (size (q * 2 ^ k) - 24) * 2 ^ 23 + q * 2 ^ k / 2 ^ (size (q * 2 ^ k) - 24) ≡ c + (k * 2 ^ 23 + q)
@@ -95,7 +97,7 @@ units_bits s q k h l m = go (ltb (q * 2 ^ k) (2 ^ 277)) (ltb→lt (q * 2 ^ k) (2
         omega arith
 
     go : (b : Bool) → (T b → q * 2 ^ k < 2 ^ 277) → (T (not b) → 2 ^ 277 ≤ q * 2 ^ k) → to_bits binary32 (units binary32 s q k) ≡ cond s (2 ^ 31) 0 + (k * 2 ^ 23 + q)
-    go true y n = bits_of_value (units binary32 s q k) s (q * 2 ^ k) (units_val binary32 s q k (y tt)) ∙ fields q k (cond s (2 ^ 31) 0) h l
+    go true y n = bits_of_value binary32 (units binary32 s q k) s (q * 2 ^ k) (units_val binary32 s q k (y tt)) ∙ fields q k (cond s (2 ^ 31) 0) h l
     go false y n = ap (to_bits binary32) (over s q k (n tt)) ∙ bits_inf s ∙ ap (λ (x : ℕ). cond s (2 ^ 31) 0 + x) (sym (top q k h m (n tt)))
 
 -- n / d to the nearest whole number, by comparison
@@ -124,18 +126,20 @@ pub closest_gt : (n d : ℕ) → d < n % d * 2 → closest n d ≡ suc (n / d)
 closest_gt n d h = ap (nearest (n / d)) (is_gt (compare (n % d * 2) d) (lt-leb (n % d * 2) d h))
 
 -- a finite f64 by its fields
-value : (s : Bool) (f t : ℕ) → 0 < f → f < 2047 → HasValue (of_fields binary64 s f t) s ((2 ^ 52 + t) * 2 ^ (f - 1)) (2 ^ 1074)
+pub value : (s : Bool) (f t : ℕ) → 0 < f → f < 2047 → HasValue (of_fields binary64 s f t) s ((2 ^ 52 + t) * 2 ^ (f - 1)) (2 ^ 1074)
 unfolding of_fields
 value s zero t p h = absurd (lt_irrefl 0 p)
 value s (suc f) t p h =
     rw (ne_eqb (suc f) 2047 (λ e. omega arith)) (subst (λ (k : ℕ). HasValue (odd 53 s (2 ^ 52 + t) f 1074) s ((2 ^ 52 + t) * 2 ^ k) (2 ^ 1074)) (omega arith) (odd_sign 53 s (2 ^ 52 + t) f 1074))
 
-value_low : (s : Bool) (t : ℕ) → HasValue (of_fields binary64 s 0 t) s (t * 2 ^ 0) (2 ^ 1074)
+pub value_low : (s : Bool) (t : ℕ) → HasValue (of_fields binary64 s 0 t) s (t * 2 ^ 0) (2 ^ 1074)
 unfolding of_fields
 value_low s t = odd_sign 53 s t 0 1074
 
 narrowed_is : (x : Float) (s : Bool) (a c : ℕ) → 0 < c → HasValue x s a c → narrowed x ≡ round binary32 s a c
 unfolding narrowed
+narrowed_is nan s a c p h = elim h [ ]
+narrowed_is (inf _) s a c p h = elim h [ ]
 narrowed_is (fin t m e) s a c p h = rw h.0 (round_same binary32 s (m * up e) (down e) a c (down_pos e) p h.1)
 
 -- M * 2 ^ i / 2 ^ 1074, rounded to a format whose least value is 2 ^ -149
@@ -158,7 +162,7 @@ unfolding is_nan narrowed
 zero_digits s true n = refl
 zero_digits s false n = absurd n
 
-at_ones : (s : Bool) (t : ℕ) → of_fields binary64 s 2047 t ≡ cond (eqb t 0) (inf s) nan
+pub at_ones : (s : Bool) (t : ℕ) → of_fields binary64 s 2047 t ≡ cond (eqb t 0) (inf s) nan
 unfolding of_fields
 at_ones s t = refl
 
@@ -219,7 +223,7 @@ abbrev bits : ℕ → ℕ
 bits b = to_bits binary32 (narrowed (of_bits binary64 b))
 
 module _ (b : ℕ) (B : b < 2 ^ 64) where
-  by_fields : of_bits binary64 b ≡ of_fields binary64 (leb (2 ^ 63) b) (b % 2 ^ 63 / 2 ^ 52) (b % 2 ^ 52)
+  pub by_fields : of_bits binary64 b ≡ of_fields binary64 (leb (2 ^ 63) b) (b % 2 ^ 63 / 2 ^ 52) (b % 2 ^ 52)
   unfolding of_bits
   by_fields = refl
 

@@ -39,3 +39,7 @@ abbrev pub sign_of : Float → Bool
 sign_of nan = false
 sign_of (inf s) = s
 sign_of (fin s m e) = s
+
+-- The f64 360.0, by its bits: a whole turn
+abbrev pub d360 : Float
+d360 = Ieee.of_bits binary64 0x4076_8000_0000_0000

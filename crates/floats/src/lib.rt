@@ -1,8 +1,11 @@
-// Floats of a colour: rounding to an `f32`, to a channel, holding to 0 .. 1, and the sign.
-ghost use Rattle.std.specs.Prelude.{◌≡◌, ◌+◌, ◌*◌, ◌^◌, ◌<◌, false, not, T, negsuc, from_bits, is_nan, to_bits};
+// Floats of a colour: rounding to an `f32`, to a channel, holding to 0 .. 1, the sign, and what is left of whole turns.
+#![tactic(auto)]
+
+ghost use Rattle.std.specs.Prelude.{◌≡◌, ◌+◌, ◌*◌, ◌%◌, ◌^◌, ◌<◌, false, not, T, negsuc, from_bits, is_nan, to_bits};
 ghost use Rattle.std.specs.Float.{fin, binary32, binary64};
+ghost use Rattle.std.specs.Float.Ieee.{le, rem};
 ghost use Rattle.std.specs.Float.Ieee.Nearest.{closest};
-ghost use Rattle.floats.specs.Floats.{narrowed, channel_of, clamped, sign_of};
+ghost use Rattle.floats.specs.Floats.{narrowed, channel_of, clamped, sign_of, d360};
 
 // x rounded to an `f32`: to the nearest, a tie to the even one. Past the largest `f32` it is an infinity; a NaN gives a NaN.
 pub fn narrow(x: f64) -> f32
@@ -117,4 +120,53 @@ pub fn is_sign_negative(x: f64) -> bool
         return false;
     }
     f64::to_bits(x) >= 0x8000_0000_0000_0000
+}
+
+// x % 360, exactly and with x's sign, as Rust's `%` on floats: that would be a call of the C library's fmod.
+// A NaN and an infinity give a NaN.
+pub fn remainder_360(x: f64) -> f64
+    ensures { result ≡ rem binary64 x d360 }
+{
+    if x >= 360.0 {
+        if x < 720.0 {
+            return x - 360.0;
+        }
+        return large_remainder(x);
+    }
+    if x <= -360.0 {
+        return -large_remainder(-x);
+    }
+    x
+}
+
+// x is m times a power of two, so its remainder is that of a whole number.
+fn large_remainder(x: f64) -> f64
+    requires { T (le d360 x) }
+    ensures { result ≡ rem binary64 x d360 }
+{
+    let b: u64 = f64::to_bits(x);
+    let field: u64 = b >> 52;
+    let m: u64 = 0x10_0000_0000_0000 + b % 0x10_0000_0000_0000;
+    if field < 1075 {
+        // x is m / unit
+        let unit: u64 = 1 << (1075 - field);
+        return (m % (360 * unit)) as f64 / unit as f64;
+    }
+    if field < 2047 {
+        return doubled(m % 360, field - 1075) as f64;
+    }
+    // an infinity
+    0.0 / 0.0
+}
+
+// The remainder of r * 2 ^ k by 360.
+fn doubled(r: u64, k: u64) -> u64
+    requires { r < 360 }
+    ensures { result ≡ r * 2 ^ k % 360 }
+{
+    let mut n: u64 = r;
+    for _ in 0..k {
+        n = n * 2 % 360;
+    }
+    n
 }

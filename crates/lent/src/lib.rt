@@ -1,4 +1,6 @@
 // Writing into bytes and numbers that a caller lends. What is written stands from a place on, and what lies around it stays.
+#![tactic(auto)]
+
 ghost use Rattle.std.specs.Prelude.{◌≡◌, [], ◌∷◌, ◌+◌, ◌≤◌, ◌<◌, length, replicate};
 ghost use Rattle.std.proofs.Math.Seq.{paste};
 ghost use Rattle.lent.specs.Decimals.{decimal};

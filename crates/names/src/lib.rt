@@ -1,4 +1,6 @@
 // The colour keywords of CSS Color 3, section 4.3, and the look-up of a word among them.
+#![tactic(auto)]
+
 ghost use Rattle.std.specs.Prelude.{◌≡◌, [], ◌<◌, length};
 ghost use Rattle.text_bytes.specs.Words.{lowered};
 ghost use Rattle.names.specs.Look.{channels, look_up, named_of};
@@ -6,7 +8,7 @@ ghost use Rattle.names.specs.Search.{nth, order, Holds, entry_name};
 ghost use Rattle.names.specs.Back.{spelt, same_colour, first_named, name_answer, name_over};
 ghost use Rattle.names.specs.Keywords.{keywords};
 
-#[derive(Drop)]
+#[derive(Clone, Copy)]
 pub struct Rgb {
     pub red: u8,
     pub green: u8,
@@ -14,7 +16,7 @@ pub struct Rgb {
 }
 
 // `transparent` is no keyword of the standard; svgtypes reads it as 0, 0, 0 with alpha 0.
-#[derive(Drop)]
+#[derive(Clone, Copy)]
 pub enum Named {
     Keyword(Rgb),
     Transparent,
@@ -22,7 +24,7 @@ pub enum Named {
 }
 
 // How many bytes of a keyword were written, or why none: too few are lent, or no keyword has the colour.
-#[derive(Drop)]
+#[derive(Clone, Copy)]
 pub enum NameWritten {
     Written(usize),
     Short,
@@ -92,7 +94,7 @@ const CHANNELS: [u8; 441] =
     \xd2\xb4\x8c\x00\x80\x80\xd8\xbf\xd8\xff\x63\x47\x40\xe0\xd0\xee\x82\xee\xf5\xde\xb3\xff\xff\xff\
     \xf5\xf5\xf5\xff\xff\x00\x9a\xcd\x32";
 
-#[derive(Drop)]
+#[derive(Clone, Copy)]
 enum Order {
     Before,
     Same,

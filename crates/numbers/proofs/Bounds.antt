@@ -6,7 +6,7 @@ use native.Mathlib.Nat.{le_trans, le_of_eq, le_of_lt, mul-one, one-mul, mul-le-m
 use native.Mathlib.Omega.{arith}
 use lib.Dec.{lit≤, lit<}
 use lib.IntN.{pos}
-use lib.Ieee.{Float, fin, binary64, neg, of_int, up, down}
+use lib.Ieee.{Float, nan, inf, fin, binary64, neg, of_int, up, down}
 use lib.Ieee.Exact.{HasValue}
 use Rattle.floats.proofs.Bounds.{Within, AtLeastOne, wider, neg_within, int_within, mul_within, div_within}
 use Rattle.numbers.specs.Digits.{cap}
@@ -15,10 +15,14 @@ use Rattle.numbers.specs.Powers.{power_of}
 use Rattle.numbers.proofs.Exact.{power_exact}
 
 whole_least : (x : Float) (n : ℕ) → HasValue x false n 1 → 0 < n → AtLeastOne x
+whole_least nan n v p = elim v [ ]
+whole_least (inf _) n v p = elim v [ ]
 whole_least (fin s m e) n v p =
     le_trans (le_of_eq (sym (one-mul (down e)))) (le_trans (mul-le-mul_right (down e) p) (le_of_eq (sym v.1 ∙ mul-one (m * up e))))
 
 whole_within : (x : Float) (n k : ℕ) → HasValue x false n 1 → n ≤ 2 ^ k → Within k x
+whole_within nan n k v h = elim v [ ]
+whole_within (inf _) n k v h = elim v [ ]
 whole_within (fin s m e) n k v h = le_trans (le_of_eq (sym (mul-one (m * up e)) ∙ v.1)) (mul-le-mul_right (down e) h)
 
 power_least : (k : ℕ) → k < 23 → AtLeastOne (power_of k)

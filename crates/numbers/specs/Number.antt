@@ -16,7 +16,6 @@ use Rattle.numbers.specs.Moves.{then_number}
 use Rattle.numbers.specs.declared.Mantissa.{Mantissa}
 use Rattle.numbers.specs.declared.Exponent.{Exponent}
 use Rattle.numbers.specs.declared.Scale.{Scale}
-use Rattle.numbers.specs.declared.Number.{Number}
 use Rattle.numbers.specs.declared.NumberRead.{NumberRead}
 use Rattle.numbers.specs.declared.NumberRead.TheVariants as N
 

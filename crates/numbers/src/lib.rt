@@ -1,4 +1,6 @@
 // Decimal text to f64: a number, a number of a list, and either with a `%`.
+#![tactic(auto)]
+
 ghost use Rattle.std.specs.Prelude.{◌≡◌, true, cond, ◌+◌, ◌-◌, ◌*◌, ◌≤◌, ◌<◌, min, drop, length};
 ghost use Rattle.std.specs.Float.Ieee.{neg};
 ghost use Rattle.text_bytes.specs.Bytes.{is_digit};
@@ -8,11 +10,11 @@ ghost use Rattle.numbers.specs.Powers.{power_of};
 ghost use Rattle.numbers.specs.Held.{held_mantissa, held_exponent};
 ghost use Rattle.numbers.specs.Number.{starts_number, after_sign, mantissa_at, exponent_from, no_exponent, exponent_at, scale_of, value_of, refused_at, scaled, finished, number_from, parse_number, parse_number_or_percent, after_item, parse_list_number, parse_list_number_or_percent};
 
-use text_bytes::Place;
 use stream::{Fault, Trouble};
+use text_bytes::Place;
 
 // A number: its value, whether it was written with neither dot nor exponent, and where its own text ended.
-#[derive(Drop)]
+#[derive(Clone, Copy)]
 pub struct Number {
     pub value: f64,
     pub whole: bool,
@@ -20,21 +22,21 @@ pub struct Number {
 }
 
 // The number and the place where reading goes on, or why there is none.
-#[derive(Drop)]
+#[derive(Clone, Copy)]
 pub enum NumberRead {
     Value(Number, Place),
     Refused(Fault),
 }
 
 // A run of digits: where it ends, and its value, held at 2^53.
-#[derive(Drop)]
+#[derive(Clone, Copy)]
 pub struct Digits {
     pub end: Place,
     pub value: u64,
 }
 
 // The digits before an exponent, and how many of them are a fraction; `end` is where the form's longest beginning ends.
-#[derive(Drop)]
+#[derive(Clone, Copy)]
 struct Mantissa {
     ok: bool,
     value: u64,
@@ -43,7 +45,7 @@ struct Mantissa {
     end: Place,
 }
 
-#[derive(Drop)]
+#[derive(Clone, Copy)]
 struct Exponent {
     ok: bool,
     minus: bool,
@@ -53,7 +55,7 @@ struct Exponent {
 }
 
 // By how many places the point moves, and whether down.
-#[derive(Drop)]
+#[derive(Clone, Copy)]
 struct Scale {
     down: bool,
     by: u64,

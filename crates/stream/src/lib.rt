@@ -1,4 +1,6 @@
 // Reading a lent text: bytes wanted, faults, refusals, and which text may be read.
+#![tactic(auto)]
+
 ghost use Rattle.std.specs.Prelude.{◌≡◌, min};
 ghost use Rattle.stream.specs.Faults.{consume_byte, consume_string, parse_list_separator};
 
@@ -15,7 +17,7 @@ pub use edge::{
 pub use faults::{invalid_value, trouble_at, unexpected_data, unexpected_end};
 
 // What is wrong, by the crate's names; the five troubles of a number are document 02's.
-#[derive(Drop)]
+#[derive(Clone, Copy)]
 pub enum Trouble {
     UnexpectedEndOfStream,
     InvalidValue,
@@ -36,7 +38,7 @@ pub enum Trouble {
 
 // What an inside reader refuses, in places alone: `at` is where the position is taken from, `from` and
 // `to` are the ends of the refused piece.
-#[derive(Drop)]
+#[derive(Clone, Copy)]
 pub struct Fault {
     pub trouble: Trouble,
     pub at: Place,
@@ -47,7 +49,7 @@ pub struct Fault {
 }
 
 // Document 01's record of a refusal; with document 02's stretch, the places where the refused piece starts and ends.
-#[derive(Drop)]
+#[derive(Clone, Copy)]
 pub struct Refusal {
     pub number: u8,
     pub position: Position,
@@ -60,14 +62,14 @@ pub struct Refusal {
 }
 
 // The place after what was wanted, or why it is not there.
-#[derive(Drop)]
+#[derive(Clone, Copy)]
 pub enum Consumed {
     Next(Place),
     Refused(Fault),
 }
 
 // Whether an outside call may read a text.
-#[derive(Drop)]
+#[derive(Clone, Copy)]
 pub enum Admission {
     Admitted,
     Refused(Refusal),

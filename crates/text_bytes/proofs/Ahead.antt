@@ -1,19 +1,18 @@
 -- What holds of a text a in which a closing bracket lies ahead: whatever is appended, a reader that does not pass the bracket reads the same.
-use Prim.Native.Nat.{ℕ, zero, suc, ◌+◌, ◌-◌, ◌*◌, ◌≤◌, ◌<◌}
-use mathlib.Core.Bool.{Bool, true, false, cond, ◌&&◌, not}
+use Prim.Native.Nat.{ℕ, zero, suc, ◌+◌, ◌-◌, ◌≤◌, ◌<◌}
+use mathlib.Core.Bool.{Bool, true, false, cond, ◌&&◌}
 use mathlib.Core.Logic.{⊎_elim}
 use mathlib.Core.List.{List, [], ◌∷◌, ◌++◌}
-use mathlib.Core.Path.{◌≡◌, refl, sym, ap, ◌∙◌}
-use native.Mathlib.Numerals.{add-one}
+use mathlib.Core.Path.{◌≡◌, refl, sym, ◌∙◌}
 use native.Mathlib.Omega.{arith}
 use borrow.Author.Tests.{eqb-true, eqb-false, ne_eqb, lt-leb}
 use lib.Dec.{eqb, leb}
-use lib.ListN.{length, get_or, take, drop, length-append, length-drop, get_or-append, get_or-eq_default}
+use lib.ListN.{length, get_or, drop, length-append, length-drop, get_or-append, get_or-eq_default}
 use lib.Seq.{drop-append-le, take-append-le, drop-drop, get_or-drop}
 use Rattle.text_bytes.specs.Scan.{run, scan}
-use Rattle.text_bytes.proofs.Scans.{scan_ge, scan_le}
+use Rattle.text_bytes.proofs.Scans.{scan_le}
 use Rattle.text_bytes.proofs.Ranges.{le_or_lt, either}
-use Rattle.text_bytes.specs.Words.{starts_with, is_curr_byte_eq, part}
+use Rattle.text_bytes.specs.Words.{starts_with, part}
 use Rattle.text_bytes.specs.Bytes.{within, is_digit, is_hex_digit, is_ascii_ident, is_url_byte}
 
 -- A closing bracket at place i of a, or after it

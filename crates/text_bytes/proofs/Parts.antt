@@ -1,11 +1,11 @@
 -- Parts of a slice, as the code makes them: `&s[i..]` is `take (length s - i) (drop i s)`.
 use Prim.Native.Nat.{ℕ, ◌+◌, ◌-◌, ◌^◌, ◌≤◌, ◌<◌}
 use mathlib.Core.List.{List, []}
-use mathlib.Core.Path.{◌≡◌, sym, ◌∙◌}
+use mathlib.Core.Path.{◌≡◌, ◌∙◌}
 use mathlib.Core.Logic.{⊎_elim}
 use native.Mathlib.Omega.{arith}
 use lib.ListN.{length, take, drop, length-drop, drop_of_length-le, get_or, get_or-eq_default}
-use lib.Seq.{take_all, length-take-le}
+use lib.Seq.{take_all}
 use lib.Dec.{T, ltb, ltb→lt}
 use mir.Syntax.{w64}
 use mir.Val.{Fits}

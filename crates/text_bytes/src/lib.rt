@@ -1,15 +1,17 @@
 // The lent text as bytes: places and parts, classes of bytes, scans and words.
+#![tactic(auto)]
+
 ghost use Rattle.std.specs.Prelude.{◌≡◌, drop, get_or};
 ghost use Rattle.text_bytes.specs.Bytes.{is_sign, is_digit, within, is_hex_digit, is_space, is_ascii_ident, is_tail, is_link_byte, is_url_byte, is_other};
 ghost use Rattle.text_bytes.specs.Scan.{scan};
 ghost use Rattle.text_bytes.specs.Words.{starts_with, is_curr_byte_eq, same, lower_of, lowered};
 
 // A byte offset, from 0.
-#[derive(Drop)]
+#[derive(Clone, Copy)]
 pub struct Place(pub usize);
 
 // A part of a lent text.
-#[derive(Drop)]
+#[derive(Clone, Copy)]
 pub struct Part {
     pub start: Place,
     pub len: usize,

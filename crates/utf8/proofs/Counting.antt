@@ -1,20 +1,19 @@
 -- Characters are counted by the bytes that continue none: on a UTF-8 text these are the bytes that start one.
 use Prim.Native.Nat.{ℕ, zero, suc, ◌+◌, ◌-◌, ◌≤◌, ◌<◌}
-use mathlib.Core.Bool.{Bool, true, false, cond, not, ◌&&◌}
+use mathlib.Core.Bool.{Bool, true, false, cond, not}
 use mathlib.Core.List.{List, [], ◌∷◌, ◌++◌}
 use mathlib.Core.Path.{◌≡◌, refl, sym, ap, ◌∙◌}
 use native.Mathlib.Numerals.{add-one}
 use native.Mathlib.Omega.{arith}
 use borrow.Author.Tests.{eq-eqb, ne_eqb}
 use lib.Dec.{eqb, eqb-suc-zero}
-use lib.ListN.{length, get_or, take, drop, length-append}
+use lib.ListN.{length, get_or, take, length-append}
 use lib.Seq.{take-suc, take_all, take-append-add, take-append-le, get_or-append-add}
 use Rattle.text_bytes.specs.Bytes.{within, is_tail}
-use Rattle.utf8.specs.Characters.{keeps, row_of, len_at, char_len, walk, utf8_of, firsts, count, characters, calc_char_pos_at, heads, manual_at, on_character, skip_chars}
-use Rattle.utf8.specs.declared.Utf8.{Utf8}
+use Rattle.utf8.specs.Characters.{keeps, row_of, len_at, char_len, walk, utf8_of, firsts, count, characters, calc_char_pos_at, heads, manual_at, on_character}
 use Rattle.utf8.specs.declared.Utf8.TheVariants.{WellFormed, IllFormed}
 use Rattle.text_bytes.proofs.Shifts.{eqb_shift}
-use Rattle.utf8.proofs.Octets.{tails, char_le, char_inside, char_more, char_tails, char_first}
+use Rattle.utf8.proofs.Octets.{tails, char_inside, char_more, char_tails, char_first}
 use Rattle.text_bytes.proofs.Ranges.{and_first, and_second}
 
 firsts_heads : (l : List ℕ) (i k : ℕ) → tails k l ≡ true → walk i k l ≡ WellFormed → firsts k l ≡ heads l

@@ -1,16 +1,16 @@
 -- RFC 3629's table: what its rows have in common, computed once over the whole, and the laws of a character's octets that follow.
-use Prim.Native.Nat.{ℕ, zero, suc, ◌+◌, ◌-◌, ◌≤◌, ◌<◌}
+use Prim.Native.Nat.{ℕ, zero, suc, ◌+◌, ◌≤◌, ◌<◌}
 use mathlib.Core.Bool.{Bool, true, false, ◌&&◌, cond}
 use mathlib.Core.List.{List, [], ◌∷◌, ◌++◌}
-use mathlib.Core.Path.{◌≡◌, refl, sym, ap, ◌∙◌}
+use mathlib.Core.Path.{◌≡◌, refl, sym, ◌∙◌}
 use native.Mathlib.Omega.{arith}
-use borrow.Author.Tests.{leb-true, ltb-true}
-use lib.Dec.{T, eqb, leb, ltb, eqb→eq}
+use borrow.Author.Tests.{leb-true}
+use lib.Dec.{T, eqb, leb, eqb→eq}
 use lib.ListN.{length, get_or, drop}
 use lib.Seq.{drop-cons, get_or-drop}
 use Rattle.text_bytes.specs.Bytes.{within, is_tail}
 use Rattle.utf8.specs.Characters.{Range, Row, table, keeps, row_of, len_at, char_len}
-use Rattle.text_bytes.proofs.Ranges.{and_true, and_first, and_second, all_from, across, within_low, within_ge, within_le, within_yes, and_false, either}
+use Rattle.text_bytes.proofs.Ranges.{and_first, and_second, all_from, across, within_low, within_ge, within_le, within_yes, either}
 
 -- every later octet is a tail, and at most three follow a first one
 tailed : List Range → Bool
@@ -118,7 +118,7 @@ pub row_past : (b : ℕ) → 245 ≤ b → b < 256 → 9 ≡ row_of table b
 unfolding row_of within
 row_past b = row_at 9 245 11 tt b
 
-pub ruleset rows = (row_0, row_tail, row_1)
+pub ruleset rows = (row_0, row_tail, row_1, row_3, row_5, row_7, row_past)
 
 keeps_le : (rs : List Range) (xs : List ℕ) → keeps rs xs ≡ true → length rs ≤ length xs
 unfolding keeps

@@ -6,12 +6,11 @@ use mathlib.Core.Path.{◌≡◌, refl, sym, ◌∙◌}
 use native.Mathlib.Omega.{arith}
 use borrow.Author.Tests.{eq-eqb, ne_eqb, le-leb, lt-leb}
 use lib.Dec.{eqb, lit≤, eqb-suc-zero}
-use lib.ListN.{length, get_or, take, drop, length-drop, drop_of_length-le}
+use lib.ListN.{length, get_or, take, drop, drop_of_length-le}
 use lib.Seq.{drop-cons, drop-drop, get_or-drop, length-take-le}
 use Rattle.text_bytes.specs.Bytes.{within}
 use Rattle.utf8.specs.Blanks.{blank1, blank2, blank3, blank_len, blank_at, byte_before, blank_end, blank_before, front, trim_start, back, trim_end, trim_part, trim_of}
 use Rattle.text_bytes.specs.declared.Part.{Part}
-use Rattle.text_bytes.specs.declared.Place.{Place}
 use Rattle.text_bytes.proofs.Parts.{rest_part}
 use Rattle.text_bytes.proofs.Ranges.{and_false, within_ge, within_le}
 

@@ -2,7 +2,7 @@
 use Prim.Native.Nat.{ℕ, zero, suc, ◌+◌, ◌-◌, ◌^◌, ◌≤◌, ◌<◌, max}
 use mathlib.Core.Bool.{Bool, true, false, cond, ◌&&◌}
 use mathlib.Core.List.{List, [], ◌∷◌, ◌++◌}
-use mathlib.Core.Path.{◌≡◌, refl, sym, ap, ◌∙◌}
+use mathlib.Core.Path.{◌≡◌, refl, sym, ◌∙◌}
 use mathlib.Core.Logic.{⊎_elim}
 use native.Mathlib.Omega.{arith}
 use borrow.Author.Tests.{eq-eqb, ne_eqb, lt-ltb, le-ltb, ltb-true}
@@ -11,10 +11,8 @@ use lib.ListN.{length, get_or, take, drop, drop_of_length-le, length-drop}
 use lib.Seq.{drop-cons, drop-drop, take-length, take-nil}
 use mir.Syntax.{w64}
 use mir.Val.{Fits}
-use Rattle.text_bytes.specs.Bytes.{is_tail}
 use Rattle.utf8.specs.Characters.{char_len, is_ascii, walk, utf8_of, skip_chars}
 use Rattle.utf8.specs.Moves.{move_utf8}
-use Rattle.utf8.specs.declared.Utf8.{Utf8}
 use Rattle.utf8.specs.declared.Utf8.TheVariants.{WellFormed, IllFormed}
 use Rattle.text_bytes.proofs.Ranges.{and_true, and_first, and_second, lt_or_le, and_false}
 use Rattle.utf8.proofs.Octets.{char_le, char_inside, char_more, char_ascii}

@@ -1,5 +1,5 @@
 -- UTF-8, and the characters of a text.
-use Rattle.std.specs.Prelude.{ℕ, zero, suc, ◌+◌, ◌-◌, Bool, true, false, ◌&&◌, not, cond, List, [], ◌∷◌, eqb, leb, ltb, length, get_or, take, drop}
+use Rattle.std.specs.Prelude.{ℕ, zero, suc, ◌+◌, ◌-◌, Bool, true, false, ◌&&◌, not, cond, List, [], ◌∷◌, eqb, ltb, length, get_or, take, drop}
 use Rattle.text_bytes.specs.Bytes.{within}
 use Rattle.text_bytes.specs.Bytes.{is_tail}
 use Rattle.utf8.specs.declared.Utf8.{Utf8}

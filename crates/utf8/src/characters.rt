@@ -7,6 +7,7 @@ use crate::{Position, Utf8};
 use text_bytes::{Place, byte_at, in_range, is_tail};
 
 // The row of RFC 3629's table in which a first octet stands, 9 for none.
+#[tactic(auto, using(crate::proofs::Octets::rows))]
 fn lead_row(b: u8) -> u8
     ensures { result ≡ row_of table b }
 {

@@ -1,0 +1,4 @@
+use Rattle.numbers.proofs.starts_number.Goals as goal
+
+pub returns : goal.returns
+returns c = cc
