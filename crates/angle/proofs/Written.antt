@@ -14,9 +14,8 @@ use Rattle.stream.specs.Refusals.{refusal_of}
 use Rattle.stream.proofs.Insides.{text_edge}
 use Rattle.numbers.specs.Number.{is_plain, parse_number}
 use Rattle.numbers.specs.declared.Number.{Number}
-use Rattle.numbers.specs.declared.NumberRead.{NumberRead}
 use Rattle.numbers.specs.declared.NumberRead.TheVariants as N
-use Rattle.numbers.proofs.Values.{numbers_read, all_values, values_all}
+use Rattle.numbers.proofs.Values.{numbers_read, values_all}
 use Rattle.numbers.proofs.Wholes.{number_whole, number_end}
 use Rattle.angle.specs.Moves.{then_unit}
 use Rattle.angle.specs.Angles.{parse_unit, parse_angle, parse_whole, from_str}

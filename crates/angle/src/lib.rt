@@ -1,13 +1,15 @@
 // An angle, and its degrees.
+#![tactic(auto)]
+
 ghost use Rattle.std.specs.Prelude.{◌≡◌, ◌≤◌, length};
 ghost use Rattle.angle.specs.Angles.{to_degrees, parse_unit, parse_angle, parse_whole, from_str};
 ghost use Rattle.angle.specs.Paper.{paper};
 
-use text_bytes::Place;
 use numbers::{Number, NumberRead};
 use stream::{Admission, Fault, Refusal};
+use text_bytes::Place;
 
-#[derive(Drop)]
+#[derive(Clone, Copy)]
 pub enum AngleUnit {
     Degrees,
     Gradians,
@@ -15,7 +17,7 @@ pub enum AngleUnit {
     Turns,
 }
 
-#[derive(Drop)]
+#[derive(Clone, Copy)]
 pub struct Angle {
     pub number: f64,
     pub unit: AngleUnit,
@@ -37,21 +39,21 @@ impl Angle {
 }
 
 // A unit and the place after it. An angle takes a missing one as degrees; a filter wants one.
-#[derive(Drop)]
+#[derive(Clone, Copy)]
 pub enum AngleUnitRead {
     Found(AngleUnit, Place),
     Missing,
 }
 
 // The angle, its number as it was written, and the place where reading goes on; or why there is none.
-#[derive(Drop)]
+#[derive(Clone, Copy)]
 pub enum AngleRead {
     Value(Angle, Number, Place),
     Refused(Fault),
 }
 
 // The angle and its number as it was written, or why there is none.
-#[derive(Drop)]
+#[derive(Clone, Copy)]
 pub enum AngleAnswer {
     Value(Angle, Number),
     Refused(Refusal),

@@ -1,7 +1,7 @@
 -- Rules for `search`: going on with what a call answered.
 use Prim.Native.Nat.{ℕ}
 use mathlib.Core.Path.{◌≡◌}
-use lib.Ieee.{Float, binary32, add, sub, div}
+use lib.Ieee.{Float, binary32, binary64, add, sub, div, rem}
 use Rattle.text_bytes.specs.Moves.{place}
 use Rattle.stream.specs.Faults.{invalid_value}
 use Rattle.text_bytes.specs.declared.Place.{Place}
@@ -12,7 +12,7 @@ use Rattle.names.specs.declared.Named.{Named}
 use Rattle.names.specs.declared.Named.TheVariants as N
 use Rattle.names.specs.declared.Rgb.{Rgb}
 use Rattle.color.specs.Color.{rgba, named_read}
-use Rattle.color.specs.Hsl.{s2, s60, turned, lit, hsl_to_rgb, hsl_color}
+use Rattle.color.specs.Hsl.{d360, s2, s60, lit, hsl_to_rgb, hsl_color}
 use Rattle.color.specs.Moves.{then_color}
 use Rattle.color.specs.declared.Color.{Color}
 use Rattle.color.specs.declared.ColorRead.{ColorRead}
@@ -54,7 +54,7 @@ unfolding hsl_to_rgb
 lit_color h s l r g b e f k = rw (e, f, k)
 
 -- what each step of an hsl colour answered
-pub hsl_is : (h s l : Float) {n x m y k : Float} {c : Color} → n ≡ narrowed (turned h) → x ≡ clamped s → m ≡ narrowed x → y ≡ clamped l → k ≡ narrowed y
+pub hsl_is : (h s l : Float) {r t n x m y k : Float} {c : Color} → r ≡ rem binary64 h d360 → t ≡ rem binary64 (add binary64 r d360) d360 → n ≡ narrowed t → x ≡ clamped s → m ≡ narrowed x → y ≡ clamped l → k ≡ narrowed y
     → c ≡ hsl_to_rgb (div binary32 n s60) m k → c ≡ hsl_color h s l
 unfolding hsl_color
-hsl_is h s l e f g u v w = rw (← f, ← g, ← u, ← v, ← e) w
+hsl_is h s l p q e f g u v w = rw (← p, ← q, ← f, ← g, ← u, ← v, ← e) w

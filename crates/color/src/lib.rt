@@ -1,4 +1,6 @@
 // Colours: hex digits, `rgb` and `hsl` with their brackets, and names.
+#![tactic(auto)]
+
 ghost use Rattle.std.specs.Prelude.{◌≡◌, ◌+◌, ◌≤◌, length};
 ghost use Rattle.color.specs.Hex.{from_hex, short_hex, hex_pair, short_color, long_color, parse_hex};
 ghost use Rattle.color.specs.Hsl.{hue_to_rgb, hsl_to_rgb, hsl_color};
@@ -6,12 +8,12 @@ ghost use Rattle.color.specs.Color.{after_number, close_bracket, parse_alpha, rg
 ghost use Rattle.color.specs.Answer.{from_str};
 ghost use Rattle.color.specs.Paper.{paper};
 
-use text_bytes::Place;
 use names::Named;
 use numbers::NumberRead;
 use stream::{Admission, Consumed, Fault, Refusal};
+use text_bytes::Place;
 
-#[derive(Drop)]
+#[derive(Clone, Copy)]
 pub struct Color {
     pub red: u8,
     pub green: u8,
@@ -20,13 +22,13 @@ pub struct Color {
 }
 
 // The colour and the place where reading goes on, or why there is none.
-#[derive(Drop)]
+#[derive(Clone, Copy)]
 pub enum ColorRead {
     Value(Color, Place),
     Refused(Fault),
 }
 
-#[derive(Drop)]
+#[derive(Clone, Copy)]
 pub enum ColorAnswer {
     Value(Color),
     Refused(Refusal),
@@ -371,7 +373,7 @@ fn long_color(text: &[u8], at: Place, alpha: u8) -> Color
 pub fn hsl_color(h: f64, s: f64, l: f64) -> Color
     ensures { result ≡ hsl_color h s l }
 {
-    let turned = ((h % 360.0) + 360.0) % 360.0;
+    let turned = floats::remainder_360(floats::remainder_360(h) + 360.0);
     let hue = floats::narrow(turned) / 60.0;
     let saturation = floats::narrow(floats::unit_clamp(s));
     let lightness = floats::narrow(floats::unit_clamp(l));

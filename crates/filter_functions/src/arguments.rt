@@ -5,10 +5,10 @@ ghost use Rattle.filter_functions.specs.Values.{is_percent, plain_value, parse_g
 
 use crate::{FilterRead, FilterValue, Plain};
 use angle::{Angle, AngleRead, AngleUnit, AngleUnitRead};
-use text_bytes::{Part, Place};
 use length::{Length, LengthRead, LengthUnit};
 use numbers::NumberRead;
 use stream::{Consumed, Trouble};
+use text_bytes::{Part, Place};
 
 pub fn parse_blur(text: &[u8], name: Place, at: Place) -> FilterRead
     requires { length text.now ≤ 4096 }

@@ -4,10 +4,10 @@ ghost use Rattle.filter_functions.specs.Shadow.{try_parse_color, parse_deviation
 
 use crate::arguments::{is_percent, parse_filter_length, zero_length};
 use crate::{ColorTry, DeviationRead, FilterRead, FilterValue, Shadow, ShadowColor, ShadowLengths};
-use text_bytes::Place;
 use color::ColorRead;
 use length::LengthRead;
 use stream::Trouble;
+use text_bytes::Place;
 
 // The colour may stand before the lengths or after them.
 pub fn parse_drop_shadow_func(text: &[u8], name: Place, at: Place) -> FilterRead

@@ -1,13 +1,15 @@
 // Filter values: a step of a list of filter functions and links.
+#![tactic(auto)]
+
 ghost use Rattle.std.specs.Prelude.{◌≡◌, ◌≤◌, length};
 ghost use Rattle.filter_functions.specs.Filters.{filter_name, plain_name, parse_argument, close_bracket, parse_next, after_none, parse_step, next_filter};
 ghost use Rattle.filter_functions.specs.Paper.{paper_step};
 
 use angle::Angle;
-use text_bytes::{Part, Place};
 use color::Color;
 use length::Length;
 use stream::{Admission, Consumed, Fault, Refusal};
+use text_bytes::{Part, Place};
 
 mod arguments;
 mod drop_shadow;
@@ -17,14 +19,14 @@ use arguments::{parse_blur, parse_generic_color_func, parse_hue_rotate, parse_ur
 use drop_shadow::parse_drop_shadow_func;
 
 // A shadow's colour; none where it is left out or `currentColor`, which are to be drawn alike.
-#[derive(Drop)]
+#[derive(Clone, Copy)]
 pub enum ShadowColor {
     None,
     Some(Color),
 }
 
 // The offsets are no percentages; the deviation is not negative either.
-#[derive(Drop)]
+#[derive(Clone, Copy)]
 pub struct Shadow {
     pub color: ShadowColor,
     pub dx: Length,
@@ -33,7 +35,7 @@ pub struct Shadow {
 }
 
 // The seven plain functions' numbers are not negative, and a percentage is a part of 1. A link is never empty.
-#[derive(Drop)]
+#[derive(Clone, Copy)]
 pub enum FilterValue {
     Blur(Length),
     DropShadow(Shadow),
@@ -49,7 +51,7 @@ pub enum FilterValue {
 }
 
 // A step: a value with the next list place; an end with its place, the word `none` told apart; or a refusal with the list place given back.
-#[derive(Drop)]
+#[derive(Clone, Copy)]
 pub enum FilterStep {
     Value(FilterValue, Place),
     End(Place),
@@ -58,7 +60,7 @@ pub enum FilterStep {
 }
 
 // The same in places alone.
-#[derive(Drop)]
+#[derive(Clone, Copy)]
 pub enum StepRead {
     Value(FilterValue, Place),
     End,
@@ -67,13 +69,13 @@ pub enum StepRead {
 }
 
 // A value and the place where reading goes on, or why there is none.
-#[derive(Drop)]
+#[derive(Clone, Copy)]
 pub enum FilterRead {
     Value(FilterValue, Place),
     Refused(Fault),
 }
 
-#[derive(Drop)]
+#[derive(Clone, Copy)]
 pub enum Plain {
     Brightness,
     Contrast,
@@ -84,7 +86,7 @@ pub enum Plain {
     Sepia,
 }
 
-#[derive(Drop)]
+#[derive(Clone, Copy)]
 enum FilterName {
     Blur,
     DropShadow,
@@ -95,21 +97,21 @@ enum FilterName {
 }
 
 // What an attempt to read a shadow's colour came to: only a number outside the domain refuses.
-#[derive(Drop)]
+#[derive(Clone, Copy)]
 enum ColorTry {
     Found(ShadowColor, Place),
     Missing,
     Refused(Fault),
 }
 
-#[derive(Drop)]
+#[derive(Clone, Copy)]
 enum DeviationRead {
     Value(Length, Place),
     Refused(Fault),
 }
 
 // Both offsets, the deviation, and the place where reading goes on.
-#[derive(Drop)]
+#[derive(Clone, Copy)]
 enum ShadowLengths {
     Value(Length, Length, Length, Place),
     Refused(Fault),

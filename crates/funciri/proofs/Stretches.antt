@@ -24,7 +24,7 @@ use Rattle.funciri.specs.Link.{is_quote, is_link, link_at, close_link, close_quo
 use Rattle.funciri.specs.Moves.{then_link}
 use Rattle.funciri.specs.declared.LinkRead.{LinkRead}
 use Rattle.funciri.specs.declared.LinkRead.TheVariants as L
-use Rattle.stream.specs.Refusals.{Inside, refusal_of}
+use Rattle.stream.specs.Refusals.{Inside}
 use Rattle.stream.specs.declared.Refusal.{Refusal}
 use Rattle.stream.proofs.Insides.{refusal_inside, text_edge}
 use Rattle.funciri.specs.Answers.{whole_link, iri_from_str, func_iri_from_str}

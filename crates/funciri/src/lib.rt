@@ -1,4 +1,6 @@
 // Links: `#name`, and `url(#name)` with or without quotes.
+#![tactic(auto)]
+
 ghost use Rattle.std.specs.Prelude.{◌≡◌};
 ghost use Rattle.utf8.specs.Characters.{utf8_of};
 ghost use Rattle.utf8.specs.declared.Utf8.TheVariants as Utf8;
@@ -6,18 +8,18 @@ ghost use Rattle.funciri.specs.Link.{is_quote, has_quote, is_link, close_link, c
 ghost use Rattle.funciri.specs.Answers.{whole_link, iri_from_str, func_iri_from_str};
 ghost use Rattle.funciri.specs.Paper.{paper};
 
-use text_bytes::{Part, Place};
 use stream::{Admission, Consumed, Fault, Refusal};
+use text_bytes::{Part, Place};
 
 // The link, as a part of the text, and the place where reading goes on, or why there is none.
-#[derive(Drop)]
+#[derive(Clone, Copy)]
 pub enum LinkRead {
     Link(Part, Place),
     Refused(Fault),
 }
 
 // What a whole text is as a link.
-#[derive(Drop)]
+#[derive(Clone, Copy)]
 pub enum LinkAnswer {
     Link(Part),
     Refused(Refusal),

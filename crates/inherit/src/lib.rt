@@ -1,21 +1,23 @@
 // The inherit rule (ours): whose text paints an element, its own or its parent's, and which part of it.
+#![tactic(auto)]
+
 ghost use Rattle.std.specs.Prelude.{◌≡◌};
 ghost use Rattle.inherit.specs.Rule.{is_inherit, asked, inherited_of, inherited_part};
 ghost use Rattle.inherit.specs.Paper.{paper_inherited};
 
-use text_bytes::Part;
 use paint::{Paint, PaintAnswer};
 use stream::{Admission, Refusal};
+use text_bytes::Part;
 
 // An element's own text, or its parent's.
-#[derive(Drop)]
+#[derive(Clone, Copy)]
 pub enum Whose {
     Own,
     Parent,
 }
 
 // The part that is chosen; or that neither text tells, and the one higher up is to be asked; or why a text that was judged is no paint.
-#[derive(Drop)]
+#[derive(Clone, Copy)]
 pub enum Inheritance {
     Chosen(Whose, Part),
     Higher,

@@ -1,13 +1,15 @@
 // A length, and a step of a list of lengths.
+#![tactic(auto)]
+
 ghost use Rattle.std.specs.Prelude.{◌≡◌, ◌≤◌, length};
 ghost use Rattle.length.specs.Lengths.{unit_at, unit_rest, unit_width, parse_length, parse_list_length, parse_whole, from_str, next_length};
 ghost use Rattle.length.specs.Paper.{paper, paper_step};
 
-use text_bytes::Place;
 use numbers::{Number, NumberRead};
 use stream::{Admission, Fault, Refusal};
+use text_bytes::Place;
 
-#[derive(Drop)]
+#[derive(Clone, Copy)]
 pub enum LengthUnit {
     None,
     Em,
@@ -21,28 +23,28 @@ pub enum LengthUnit {
     Percent,
 }
 
-#[derive(Drop)]
+#[derive(Clone, Copy)]
 pub struct Length {
     pub number: f64,
     pub unit: LengthUnit,
 }
 
 // The length, its number as it was written, and the place where reading goes on; or why there is none.
-#[derive(Drop)]
+#[derive(Clone, Copy)]
 pub enum LengthRead {
     Value(Length, Number, Place),
     Refused(Fault),
 }
 
 // The length and its number as it was written, or why there is none.
-#[derive(Drop)]
+#[derive(Clone, Copy)]
 pub enum LengthAnswer {
     Value(Length, Number),
     Refused(Refusal),
 }
 
 // A step of a list: a length and its number with the next list place, the end with its place, or a refusal with the list place given back.
-#[derive(Drop)]
+#[derive(Clone, Copy)]
 pub enum LengthStep {
     Value(Length, Number, Place),
     End(Place),

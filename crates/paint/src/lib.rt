@@ -1,4 +1,6 @@
 // Paint: a keyword, a colour, or a link with an optional fallback.
+#![tactic(auto)]
+
 ghost use Rattle.std.specs.Prelude.{◌≡◌, ◌≤◌, length};
 ghost use Rattle.paint.specs.Moves.{link_start, move_paint};
 ghost use Rattle.text_bytes.specs.Moves.{move_part};
@@ -6,13 +8,13 @@ ghost use Rattle.paint.specs.Reading.{parse_fallback, parse_linked, parse_plain,
 ghost use Rattle.paint.specs.Answers.{from_str};
 ghost use Rattle.paint.specs.Paper.{paper};
 
-use text_bytes::{Part, Place};
 use color::{Color, ColorRead};
 use funciri::LinkRead;
 use stream::{Admission, Fault, Refusal};
+use text_bytes::{Part, Place};
 
 // What is painted where a link leads nowhere; Absent: none was written.
-#[derive(Drop)]
+#[derive(Clone, Copy)]
 pub enum PaintFallback {
     Absent,
     None,
@@ -20,7 +22,7 @@ pub enum PaintFallback {
     Color(Color),
 }
 
-#[derive(Drop)]
+#[derive(Clone, Copy)]
 pub enum Paint {
     None,
     Inherit,
@@ -32,13 +34,13 @@ pub enum Paint {
 }
 
 // What a trimmed text reads as; or a fault, whose places count from the place given with it.
-#[derive(Drop)]
+#[derive(Clone, Copy)]
 pub enum PaintRead {
     Value(Paint),
     Refused(Fault, Place),
 }
 
-#[derive(Drop)]
+#[derive(Clone, Copy)]
 pub enum PaintAnswer {
     Value(Paint),
     Refused(Refusal),

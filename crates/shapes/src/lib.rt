@@ -1,12 +1,14 @@
 // A shape is a list of atoms, and a text is walked by it, byte by byte: how far it goes, and whether to its end.
+#![tactic(auto)]
+
 ghost use Rattle.std.specs.Prelude.{◌≡◌, map, ◌-◌, get_or};
 ghost use Rattle.shapes.specs.Walk.{push, signed, digits, dot, fraction, act, ends, atom_of, turn, walk};
 
-use text_bytes::Place;
 use numbers::LIMIT;
+use text_bytes::Place;
 
 // What may come next. A number has five, by what came of it; `dots` says whether a dot may come.
-#[derive(Drop)]
+#[derive(Clone, Copy)]
 pub enum Atom {
     Spaces,
     Hex,
@@ -19,7 +21,7 @@ pub enum Atom {
 }
 
 // What an atom does with a byte: hands it on to the next, takes it and stays, takes it and is done, or is lost.
-#[derive(Drop)]
+#[derive(Clone, Copy)]
 pub enum Act {
     Pass,
     Stay(Atom),
@@ -28,7 +30,7 @@ pub enum Act {
 }
 
 // How far a text goes by a shape, and whether it is walked to its end.
-#[derive(Drop)]
+#[derive(Clone, Copy)]
 pub struct Walked {
     pub far: Place,
     pub whole: bool,

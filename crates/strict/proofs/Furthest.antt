@@ -1,5 +1,5 @@
 -- Of several shapes: one that walks a text to its end makes the furthest whole; and as far as the furthest goes some shape can go on, and one byte further none.
-use Prim.Native.Nat.{ℕ, suc, ◌+◌, ◌≤◌, ◌<◌, max}
+use Prim.Native.Nat.{ℕ, suc, ◌≤◌, ◌<◌, max}
 use mathlib.Core.Bool.{Bool, true, false, ◌||◌}
 use mathlib.Core.List.{List, [], ◌∷◌, ◌++◌}
 use mathlib.Core.Logic.{◌⊎◌, inl, inr, ⊎_elim}
@@ -72,6 +72,9 @@ module _ (s : List ℕ) where
   all_stuck w [] h n l k = tt
   all_stuck w (x ∷ xs) h n l k = (stuck x h.0 n (omega arith) k, all_stuck w xs h.1 n (omega arith) k)
 
+  carried : (m n : ℕ) → m ≡ n → (xs : List (List Atom)) → Some (GoesOn s n) xs → Some (GoesOn s m) xs
+  carried m n e xs h = rw e h
+
   pub some_on : (x : List Atom) (xs : List (List Atom)) → AllWell (x ∷ xs) → Some (GoesOn s (furthest (x ∷ xs) s nowhere).far.0) (x ∷ xs)
   unfolding furthest better
   some_on x [] h = let e : max (walk 0 x s).far.0 0 ≡ (walk 0 x s).far.0 = omega arith in inl (rw e (goes_on x h.0))
@@ -79,5 +82,5 @@ module _ (s : List ℕ) where
       ⊎_elim
       (λ (l : (furthest (y ∷ ys) s nowhere).far.0 ≤ (walk 0 x s).far.0). let e : max (walk 0 x s).far.0 (furthest (y ∷ ys) s nowhere).far.0 ≡ (walk 0 x s).far.0 = omega arith in inl (rw e (goes_on x h.0)))
       (λ (l : (walk 0 x s).far.0 < (furthest (y ∷ ys) s nowhere).far.0).
-      let e : max (walk 0 x s).far.0 (furthest (y ∷ ys) s nowhere).far.0 ≡ (furthest (y ∷ ys) s nowhere).far.0 = omega arith in inr (rw e (some_on y ys h.1)))
+      let e : max (walk 0 x s).far.0 (furthest (y ∷ ys) s nowhere).far.0 ≡ (furthest (y ∷ ys) s nowhere).far.0 = omega arith in inr (carried (max (walk 0 x s).far.0 (furthest (y ∷ ys) s nowhere).far.0) (furthest (y ∷ ys) s nowhere).far.0 e (y ∷ ys) (some_on y ys h.1)))
       (le_or_lt (furthest (y ∷ ys) s nowhere).far.0 (walk 0 x s).far.0)

@@ -1,13 +1,15 @@
 // The strict reading of a colour: CSS Color 3 as it is written, for new artwork.
+#![tactic(auto)]
+
 ghost use Rattle.std.specs.Prelude.{◌≡◌, map, ◌≤◌, max, length, get_or};
 ghost use Rattle.text_bytes.specs.Words.{lower_of};
 ghost use Rattle.color.specs.Paper.{paper};
 ghost use Rattle.shapes.specs.Walk.{atom_of, walk};
 ghost use Rattle.strict.specs.Answer.{better, furthest, nowhere, shapes, marked, marked_at, is_shaped, strict_of, strict_from_str};
 
-use text_bytes::Place;
 use color::ColorAnswer;
 use shapes::Walked;
+use text_bytes::Place;
 
 mod lines;
 

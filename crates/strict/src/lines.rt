@@ -6,8 +6,8 @@ ghost use Rattle.color.specs.Paper.{paper};
 ghost use Rattle.strict.specs.Asked.{first_line, after_feed, next_line, asked_of, is_settled, is_choice, is_enough};
 
 use crate::from_str;
-use text_bytes::Place;
 use color::ColorAnswer;
+use text_bytes::Place;
 
 // What no text is longer than.
 const LIMIT: usize = 4096;

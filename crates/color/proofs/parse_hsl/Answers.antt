@@ -1,0 +1,17 @@
+use Rattle.numbers.proofs.Steps.{numbered}
+use Rattle.stream.proofs.Flows.{consumes}
+use Rattle.color.specs.Color.{parse_hsl}
+use borrow.Author.Rules.{rules}
+use Rattle.color.proofs.parse_hsl.Goals as goal
+
+pub returns-in-Refused : goal.returns-in-Refused
+unfolding parse_hsl
+returns-in-Refused c = search (consumes, numbered, rules) depth 20
+
+pub returns-in-Refused-parse_list_number : goal.returns-in-Refused-parse_list_number
+unfolding parse_hsl
+returns-in-Refused-parse_list_number c = search (consumes, numbered, rules) depth 20
+
+pub returns-in-Value : goal.returns-in-Value
+unfolding parse_hsl
+returns-in-Value c = search (consumes, numbered, rules) depth 20

@@ -1,0 +1,17 @@
+use Rattle.numbers.proofs.Steps.{numbered}
+use Rattle.text_bytes.proofs.Flows.{flow}
+use Rattle.color.specs.Color.{rgb_marked}
+use borrow.Author.Rules.{rules}
+use Rattle.color.proofs.rgb_marked.Goals as goal
+
+pub returns-in-Refused : goal.returns-in-Refused
+unfolding rgb_marked
+returns-in-Refused c = search (flow, numbered, rules) depth 20
+
+pub returns-in-Refused-parse_list_number_or_percent : goal.returns-in-Refused-parse_list_number_or_percent
+unfolding rgb_marked
+returns-in-Refused-parse_list_number_or_percent c = search (flow, numbered, rules) depth 20
+
+pub returns-in-Value-parse_list_number_or_percent : goal.returns-in-Value-parse_list_number_or_percent
+unfolding rgb_marked
+returns-in-Value-parse_list_number_or_percent c = search (flow, numbered, rules) depth 20
