@@ -1,5 +1,5 @@
 -- A colour in texts that are alike: what is accepted of the one is accepted of the other. Behind a number of an accepted colour no `e` stands: every continuation refuses it.
-use Prim.Native.Nat.{ℕ, ◌+◌, ◌-◌}
+use Prim.Native.Nat.{ℕ, ◌+◌}
 use mathlib.Core.Bool.{Bool, true, false, cond}
 use mathlib.Core.List.{List}
 use mathlib.Core.Path.{◌≡◌, refl, sym, ◌∙◌}

@@ -1,12 +1,12 @@
 -- A number in texts that are alike. Case tells in one place: an `e` before a small `m` or `x` is no exponent. Where no `e` stands behind the number, both texts give it.
-use Prim.Native.Nat.{ℕ, ◌+◌, ◌-◌, ◌≤◌, ◌<◌}
+use Prim.Native.Nat.{ℕ, ◌+◌, ◌≤◌, ◌<◌}
 use mathlib.Core.Bool.{Bool, true, false, cond, ◌||◌}
 use mathlib.Core.List.{List}
 use mathlib.Core.Logic.{⊎_elim}
 use mathlib.Core.Path.{◌≡◌, refl, sym, ap, ◌∙◌}
 use native.Mathlib.Omega.{arith}
 use borrow.Author.Tests.{eqb-true, le-ltb, lt-leb}
-use lib.Dec.{T, eqb, leb, ltb}
+use lib.Dec.{eqb, leb, ltb}
 use lib.ListN.{length, get_or, drop, get_or-eq_default}
 use Rattle.text_bytes.specs.Bytes.{within, is_digit, is_sign, is_space}
 use Rattle.text_bytes.specs.Flow.{bind}

@@ -1,9 +1,11 @@
 // The record of an answer that counts what was written into lent bytes.
+#![tactic(auto)]
+
 ghost use Rattle.std.specs.Prelude.{◌≡◌};
 ghost use Rattle.counts.specs.Counts.{set_back_record};
 
-use text_bytes::Place;
 use set_back::SetBack;
+use text_bytes::Place;
 
 pub fn write_set_back(out: &mut [u64; 24], answer: SetBack)
     ensures { out.new ≡ set_back_record answer }

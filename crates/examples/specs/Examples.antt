@@ -57,7 +57,7 @@ pub record Examples : Type 0 where
   pub one_em : lengths.from_str (ascii "1em") ≡ L.Value (record { number = one; unit = U.Em }) (record { value = one; whole = true; end = place 1 })
   -- "`blur(50%)` is 11 at 6": the list is at its end, 9
   pub percentage : next_filter (ascii "blur(50%)") 0 ≡ F.Refused (refusal 11 6 0 0 0 8) (place 9)
-  -- "`hue_rotate(1)` is 13 at 12"
+  -- "`hue-rotate(1)` is 13 at 12"
   pub unmarked_angle : next_filter (ascii "hue-rotate(1)") 0 ≡ F.Refused (refusal 13 12 0 0 0 12) (place 13)
   -- "`drop_shadow(1 2 -3)` is a value with deviation 0"
   pub read_past : next_filter (ascii "drop-shadow(1 2 -3)") 0 ≡ F.Value (shadow O.None (plain one) (plain two) zero_length) (place 19)

@@ -1,4 +1,6 @@
 // Demand 3 of what `filter_functions::next` returns: on two lists alone, and on the one followed by the other. The theorems of whole lists are in specs/ and proofs/.
+#![tactic(auto)]
+
 ghost use Rattle.std.specs.Prelude.{◌++◌, ◌≡◌, ◌+◌, ◌≤◌, length};
 ghost use Rattle.text_bytes.specs.Bytes.{is_space};
 ghost use Rattle.utf8.specs.Characters.{utf8_of, characters};
@@ -7,11 +9,11 @@ ghost use Rattle.utf8.specs.declared.Utf8.TheVariants as Utf8;
 ghost use Rattle.filter_functions.specs.Filters.{next_filter};
 ghost use Rattle.joins.specs.Joins.{move_step, Unchanged, Meets};
 
-use text_bytes::Place;
 use filter_functions::FilterStep;
+use text_bytes::Place;
 
 // A step of a list alone, and the same step of both lists.
-#[derive(Drop)]
+#[derive(Clone, Copy)]
 pub struct Steps {
     pub alone: FilterStep,
     pub both: FilterStep,
@@ -35,7 +37,7 @@ pub fn first_list(first: &[u8], second: &[u8], both: &[u8], place: Place) -> Ste
 }
 
 // A step of the first list, the first step of the second, and a step of both lists.
-#[derive(Drop)]
+#[derive(Clone, Copy)]
 pub struct Meeting {
     pub ended: FilterStep,
     pub alone: FilterStep,

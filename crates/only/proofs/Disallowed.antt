@@ -30,11 +30,10 @@ use Rattle.filter_functions.specs.Filters.{plain_name, filter_name, argument_of}
 use Rattle.filter_functions.specs.Values.{is_percent, parse_filter_positive_length, parse_filter_angle, parse_blur, parse_hue_rotate, parse_generic_color_func}
 use Rattle.filter_functions.specs.Shadow.{parse_drop_shadow_func}
 use Rattle.filter_functions.specs.declared.Plain.{Plain}
-use Rattle.filter_functions.specs.declared.Plain.TheVariants as Plain
 use Rattle.filter_functions.specs.declared.FilterRead.{FilterRead}
 use Rattle.filter_functions.specs.declared.FilterRead.TheVariants as F
 use Rattle.standards.specs.Ieee754.{double}
-use Rattle.standards.specs.CssValues3.{whole, is_minus, joined, Number, number, exactly, is_integer, percentage, AngleUnit, deg, grad, rad, turn, angle_unit}
+use Rattle.standards.specs.CssValues3.{is_minus, joined, Number, number, exactly, is_integer, percentage, AngleUnit, deg, grad, rad, turn, angle_unit}
 use Rattle.standards.specs.Domain.{InDomain}
 use Rattle.standards.specs.FilterEffects1.{Simple, brightness, contrast, grayscale, invert, opacity, saturate, sepia, simple_name, name}
 use Rattle.standards.specs.Answers.{Apart}

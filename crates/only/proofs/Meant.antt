@@ -22,7 +22,7 @@ use Rattle.angle.specs.Angles as Angles
 use Rattle.angle.specs.declared.Angle.{Angle}
 use Rattle.angle.specs.declared.AngleAnswer.TheVariants as Ra
 use Rattle.standards.specs.Ieee754.{double}
-use Rattle.standards.specs.CssValues3.{blanks, Number, number}
+use Rattle.standards.specs.CssValues3.{blanks, number}
 use Rattle.standards.specs.Svg2.{length_text, angle_text, ratio}
 use Rattle.standards.specs.Answers.{number_of, length_of, angle_of}
 use Rattle.standards.proofs.Whole.{documents}

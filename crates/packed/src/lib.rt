@@ -1,14 +1,16 @@
 // A value as one number, which comes back in a register. A text has at most 4,096 bytes, so that a link's start and length take 13 bits each.
+#![tactic(auto)]
+
 ghost use Rattle.std.specs.Prelude.{◌≡◌, ◌*◌, ◌<◌};
 ghost use Rattle.paint.specs.Moves.{link_start};
 ghost use Rattle.paint.specs.declared.Paint.TheVariants as Paint;
 ghost use Rattle.packed.specs.Links.{link_len};
 ghost use Rattle.packed.specs.Numbers.{no_color, no_paint, places, color_number, number_color, fallback_number, paint_number, decoded_fallback, decoded_link, decoded_paint, refusal_number};
 
-use text_bytes::{Part, Place};
 use color::Color;
 use paint::{Paint, PaintFallback};
 use stream::Refusal;
+use text_bytes::{Part, Place};
 
 // No colour's number: the first number after them.
 pub const NO_COLOR: u64 = 0x1_0000_0000;

@@ -6,13 +6,13 @@ ghost use Rattle.records.specs.Records.{row, color_record, length_record, angle_
 
 use crate::{entries, written};
 use angle::AngleAnswer;
-use text_bytes::{Part, Place};
 use color::ColorAnswer;
 use funciri::LinkAnswer;
 use inherit::Inheritance;
 use length::LengthAnswer;
 use paint::{Paint, PaintAnswer, PaintFallback};
 use stream::Refusal;
+use text_bytes::{Part, Place};
 
 pub fn refused(out: &mut [u64; 24], e: Refusal)
     ensures { out.new ≡ row e 0 0 [] }

@@ -1,4 +1,6 @@
 // The numbers that stand in a row's entries.
+#![tactic(auto, unfolding(crate::specs::Records::length_unit, crate::specs::Records::angle_unit, inherit::specs::Paper::whose_number))]
+
 ghost use Rattle.std.specs.Prelude.{cond, ◌≡◌};
 ghost use Rattle.records.specs.Records.{bits_of, length_unit, angle_unit};
 ghost use Rattle.inherit.specs.Paper.{whose_number};

@@ -5,9 +5,9 @@ ghost use Rattle.records.specs.Records.{length_entries, filter_row};
 ghost use Rattle.filter_functions.specs.declared.FilterValue.TheVariants as FilterValue;
 
 use crate::{entries, written};
-use text_bytes::Place;
 use filter_functions::{FilterValue, Shadow, ShadowColor};
 use length::Length;
+use text_bytes::Place;
 
 fn measured(out: &mut [u64], at: usize, l: Length)
     requires { at + 2 ≤ length out.old }
@@ -39,6 +39,7 @@ pub fn shadow(out: &mut [u64], k: usize, d: Shadow, place: Place)
     }
 }
 
+#[tactic(auto, unfolding(crate::specs::Records::filter_row, filter_functions::specs::Paper::result))]
 pub fn write_value(out: &mut [u64], k: usize, value: FilterValue, place: Place)
     requires { k + 24 ≤ length out.old }
     ensures { out.new ≡ paste out.old k (filter_row place.0 value) 24 }

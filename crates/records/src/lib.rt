@@ -1,4 +1,6 @@
 // An answer as a row of 24 numbers, laid out alike for every call, and written straight into the entries that are lent.
+#![tactic(auto)]
+
 mod answers;
 mod entries;
 mod filters;

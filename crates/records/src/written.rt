@@ -4,9 +4,9 @@ ghost use Rattle.std.specs.Prelude.{◌≡◌, [], ◌∷◌, ◌+◌, ◌≤◌
 ghost use Rattle.std.proofs.Math.Seq.{paste};
 ghost use Rattle.records.specs.Records.{row, found_row, end_row, color_entries};
 
-use text_bytes::Place;
 use color::Color;
 use stream::Refusal;
+use text_bytes::Place;
 
 // A third of a row. Entry by entry, since a loop is compiled to a call that fills or copies memory.
 fn eight(out: &mut [u64], at: usize, a: u64, b: u64, c: u64, d: u64, e: u64, f: u64, g: u64, h: u64)

@@ -1,4 +1,6 @@
 // A colour set back as text: hex digits, or its keyword. No text is read here, so none is tested.
+#![tactic(auto)]
+
 ghost use Rattle.std.specs.Prelude.{◌≡◌, ◌/◌, ◌%◌, ◌<◌, length};
 ghost use Rattle.lent.specs.Texts.{written};
 ghost use Rattle.names.specs.Back.{spelt, name_over};
@@ -11,7 +13,7 @@ use names::{NameWritten, Rgb};
 use stream::Refusal;
 
 // How many bytes were written, or why none was.
-#[derive(Drop)]
+#[derive(Clone, Copy)]
 pub enum SetBack {
     Written(usize),
     Refused(Refusal),

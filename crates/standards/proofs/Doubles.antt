@@ -56,6 +56,8 @@ written_under s i =
 
 hundredth : (q : Fraction) (x : Float) → T (finite x) → RoundsTo (parameters binary64) q x → Hundredth q (div binary64 x hundred)
 unfolding of_bits
+hundredth q lib.Ieee.nan t h = elim t [ ]
+hundredth q (lib.Ieee.inf _) t h = elim t [ ]
 hundredth q (fin s m e) t h = record { s = s; m = m; e = e; first = h; second = div_rounds binary64 s m e false 25 (pos 2) (lit< tt) }
 
 module _ (s : List ℕ) (i : ℕ) (n : Number) (p : Place) (read : parse_number s i ≡ N.Value n p) where

@@ -4,11 +4,12 @@ use mathlib.Core.Bool.{not}
 use mathlib.Core.Path.{◌≡◌, ◌∙◌}
 use native.Mathlib.Omega.{arith}
 use lib.Dec.{T}
-use lib.Ieee.{Float, nan, inf, fin, is_nan}
+use lib.Ieee.{Float, nan, inf, fin, binary64, is_nan}
 use Rattle.text_bytes.proofs.Ranges.{either}
 use Rattle.color.specs.Color.{rgba}
 use Rattle.color.specs.Hsl.{hsl_color}
-use Rattle.standards.specs.Ieee754.{Fraction, Parameters, RoundsTo, double, gain}
+use Rattle.standards.specs.Ieee754.{Fraction, Parameters, RoundsTo, parameters, quotient, exact, double, gain}
+use Rattle.standards.specs.Svg2.{ratio}
 use Rattle.standards.specs.CssValues3.{Number, exactly}
 use Rattle.standards.specs.Domain.{InDomain}
 use Rattle.standards.specs.Answers.{portion}
@@ -24,7 +25,7 @@ rounds_no_nan f q (inf s) r = tt
 rounds_no_nan f q (fin s m e) r = tt
 
 portion_no_nan : (t : Number) → InDomain t → T (not (is_nan (portion t)))
-portion_no_nan t d = let h = exactly_hundredth t d in rounds_no_nan _ _ (portion t) h.second
+portion_no_nan t d = let h = exactly_hundredth t d in rounds_no_nan (parameters binary64) (quotient (exact h.s h.m h.e) (ratio 100 1)) (portion t) h.second
 
 -- THEOREM. A lightness of 0% or below is black, whatever the hue and the saturation.
 pub lightness_black : (l : Number) → gain (exactly l) ≡ 0 → (hue s : Float) → hsl_color hue s (portion l) ≡ rgba 0 0 0 255

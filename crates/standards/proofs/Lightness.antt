@@ -216,10 +216,14 @@ turned_within h p =
 
 pub narrowed_within : (k : ℕ) (x : Float) → k ≤ 127 → Within k x → Within k (narrowed x)
 unfolding narrowed
+narrowed_within k nan E h = elim h [ ]
+narrowed_within k (inf _) E h = elim h [ ]
 narrowed_within k (fin s m e) E h = round_within binary32 s (m * up e) (down e) k (down_pos e) E h
 
 sextant_within : (x : Float) → Within 9 x → Within 4 (div binary32 x s60)
 unfolding div of_bits
+sextant_within nan h = elim h [ ]
+sextant_within (inf _) h = elim h [ ]
 sextant_within (fin s m e) h = round_within binary32 _ (m * up e * 1) (15 * 4 * down e) 4 (omega (arith, down_pos e)) (lit≤ tt) (omega (arith, h))
 
 pub around : (h : Float) → Within 5 h → Within 7 (lessened (raised h))

@@ -17,14 +17,11 @@ use Rattle.numbers.specs.Number.{parse_number}
 use Rattle.numbers.specs.declared.NumberRead.TheVariants as N
 use Rattle.length.specs.Lengths as LS
 use Rattle.length.specs.Lengths.{unit_at, unit_rest, unit_width, parse_length}
-use Rattle.length.specs.declared.Length.{Length}
-use Rattle.length.specs.declared.LengthUnit.{LengthUnit}
 use Rattle.length.specs.declared.LengthRead.TheVariants as L
 use Rattle.length.specs.declared.LengthAnswer.TheVariants as LA
 use Rattle.angle.specs.Angles as AS
 use Rattle.angle.specs.Angles.{parse_unit, parse_angle, to_degrees}
 use Rattle.angle.specs.Moves.{then_unit}
-use Rattle.angle.specs.declared.Angle.{Angle}
 use Rattle.angle.specs.declared.AngleUnit.{AngleUnit}
 use Rattle.angle.specs.declared.AngleUnit.TheVariants as W
 use Rattle.angle.specs.declared.AngleRead.TheVariants as R

@@ -26,7 +26,6 @@ use Rattle.funciri.specs.Link.{link_at, link_bytes}
 use Rattle.paint.specs.Answers.{from_str}
 use Rattle.paint.specs.Moves.{move_paint}
 use Rattle.paint.specs.Reading.{parse_fallback, parse_linked, parse_plain, parse_paint}
-use Rattle.paint.specs.declared.Paint.{Paint}
 use Rattle.paint.specs.declared.Paint.TheVariants as P
 use Rattle.paint.specs.declared.PaintAnswer.TheVariants as A
 use Rattle.paint.specs.declared.PaintFallback.TheVariants as F

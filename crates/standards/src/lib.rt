@@ -1,1 +1,3 @@
+#![tactic(auto)]
+
 // Theorems alone: the readers, held to the public documents.
