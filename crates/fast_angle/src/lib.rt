@@ -1,11 +1,13 @@
 // An angle as a whole text, sooner: its number goes by no refusal.
+#![tactic(auto)]
+
 ghost use Rattle.std.specs.Prelude.{◌≡◌};
 ghost use Rattle.angle.specs.Angles.{from_str};
 
 use angle::{Angle, AngleAnswer, AngleUnit, AngleUnitRead};
-use text_bytes::Place;
 use numbers::Number;
 use stream::Admission;
+use text_bytes::Place;
 
 pub fn from_str(text: &[u8]) -> AngleAnswer
     ensures { result ≡ from_str text.now }

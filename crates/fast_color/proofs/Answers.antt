@@ -1,7 +1,7 @@
 -- The number of a whole text's answer, by what is read at its start.
 use Prim.Native.Nat.{ℕ, ◌+◌, ◌*◌, ◌/◌, ◌%◌, ◌≤◌, ◌<◌}
 use mathlib.Core.Bool.{Bool, true, false, ◌||◌, true≢false}
-use mathlib.Core.List.{List, []}
+use mathlib.Core.List.{List}
 use mathlib.Core.Path.{◌≡◌, refl, sym, ap, ◌∙◌}
 use native.Mathlib.Omega.{arith}
 use borrow.Author.Tests.{le-ltb, lt-leb, ltb-false, eq-eqb}
@@ -15,7 +15,7 @@ use Rattle.stream.specs.Faults.{invalid_value}
 use Rattle.utf8.specs.Characters.{utf8_of}
 use Rattle.text_bytes.specs.Flow.{bind}
 use Rattle.stream.specs.Refusals.{number_of, refusal_of, admit_text}
-use Rattle.text_bytes.specs.Scan.{run, scan}
+use Rattle.text_bytes.specs.Scan.{scan}
 use Rattle.stream.specs.declared.Admission.TheVariants as M
 use Rattle.stream.specs.declared.Refusal.{Refusal}
 use Rattle.utf8.specs.declared.Utf8.{Utf8}

@@ -11,7 +11,6 @@ use lib.ListN.{length, get_or}
 use Rattle.text_bytes.proofs.Ahead.{scan_bytes}
 use Rattle.text_bytes.specs.Moves.{place}
 use Rattle.text_bytes.specs.Bytes.{is_hex_digit}
-use Rattle.utf8.specs.Characters.{is_ascii}
 use Rattle.stream.specs.Faults.{invalid_value}
 use Rattle.text_bytes.specs.Flow.{bind}
 use Rattle.stream.specs.Refusals.{admit_text}

@@ -3,9 +3,9 @@ ghost use Rattle.std.specs.Prelude.{false, ◌≡◌, ◌+◌, ◌≤◌, length
 ghost use Rattle.text_bytes.specs.Bytes.{within};
 ghost use Rattle.fast_color.specs.Digits.{hex_digit, six_digits, three_digits, eight_digits, four_digits, digits_alone};
 
-use text_bytes::Place;
 use color::Color;
 use packed::NO_COLOR;
+use text_bytes::Place;
 
 // Where alpha begins in a colour's number, and an alpha of 255 there.
 const ALPHA: u64 = 0x100_0000;

@@ -1,14 +1,16 @@
 // Colours as whole texts and at a place: `color`, sooner.
+#![tactic(auto)]
+
 ghost use Rattle.std.specs.Prelude.{◌≡◌, ◌≤◌, ◌<◌, length, get_or};
 ghost use Rattle.color.specs.Answer.{from_str};
 ghost use Rattle.color.specs.Color.{parse_color};
 ghost use Rattle.packed.specs.Numbers.{color_or};
 ghost use Rattle.fast_color.specs.Told.{untold, Tells};
 
-use text_bytes::Place;
 use color::{ColorAnswer, ColorRead};
 use fast_color_functions::{TOLD_COLOR, told_color};
 use packed::NO_COLOR;
+use text_bytes::Place;
 use utf8::Utf8;
 
 mod digits;
@@ -196,7 +198,9 @@ fn parse_hex(text: &[u8], at: Place) -> ColorRead
     ensures { result ≡ parse_color text.now at.0 }
 {
     let from = at.0 + 1;
-    if (from + 6 <= text.len()) & !text_bytes::is_hex_digit(text_bytes::byte_at(text, Place(from + 6))) {
+    if (from + 6 <= text.len())
+        & !text_bytes::is_hex_digit(text_bytes::byte_at(text, Place(from + 6)))
+    {
         let v = digits::six_digits(text, Place(from));
         if v < NO_COLOR {
             return ColorRead::Value(packed::number_color(v), Place(from + 6));
@@ -213,7 +217,9 @@ fn parse_short(text: &[u8], at: Place) -> ColorRead
     ensures { result ≡ parse_color text.now at.0 }
 {
     let from = at.0 + 1;
-    if (from + 3 <= text.len()) & !text_bytes::is_hex_digit(text_bytes::byte_at(text, Place(from + 3))) {
+    if (from + 3 <= text.len())
+        & !text_bytes::is_hex_digit(text_bytes::byte_at(text, Place(from + 3)))
+    {
         let v = digits::three_digits(text, Place(from));
         if v < NO_COLOR {
             return ColorRead::Value(packed::number_color(v), Place(from + 3));

@@ -5,10 +5,10 @@ ghost use Rattle.packed.specs.Numbers.{color_answer_number};
 ghost use Rattle.records.specs.Records.{color_record, record_for};
 
 use crate::{INVALID, PAST_INVALID, told_text};
-use text_bytes::Place;
 use color::ColorAnswer;
 use packed::{NO_COLOR, PLACES};
 use paint::Paint;
+use text_bytes::Place;
 
 pub fn number(text: &[u8], answer: &mut [u64; 24]) -> u64
     ensures value { result ≡ color_answer_number (from_str text.now) }

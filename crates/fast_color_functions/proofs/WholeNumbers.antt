@@ -1,8 +1,7 @@
 -- Whole numbers with a comma or the bracket directly after them: what they are told as is what the plain reader reads.
-use Prim.Native.Nat.{ℕ, ◌+◌, ◌*◌, ◌≤◌, ◌<◌, min}
+use Prim.Native.Nat.{ℕ, ◌+◌, ◌≤◌, ◌<◌, min}
 use mathlib.Core.Bool.{Bool, true, false, ◌&&◌, ◌||◌}
 use mathlib.Core.List.{List}
-use mathlib.Core.Logic.{⊎_elim}
 use mathlib.Core.Path.{◌≡◌, refl, sym, ◌∙◌}
 use native.Mathlib.Omega.{arith}
 use borrow.Author.Tests.{eqb-true, ne_eqb, lt-leb, ltb-true}
@@ -17,18 +16,16 @@ use Rattle.text_bytes.specs.Moves.{place}
 use Rattle.text_bytes.specs.Scan.{scan}
 use Rattle.text_bytes.specs.Words.{is_curr_byte_eq}
 use Rattle.text_bytes.specs.declared.Place.{Place}
-use Rattle.text_bytes.proofs.Ahead.{scan_again, scan_bytes}
 use Rattle.text_bytes.proofs.Ranges.{and_first, and_second, either}
-use Rattle.text_bytes.proofs.Scans.{scan_here, scan_le}
+use Rattle.text_bytes.proofs.Scans.{scan_here}
 use Rattle.text_bytes.proofs.Wording.{curr_there, curr_inside, curr_byte}
 use Rattle.stream.specs.Faults.{consume_byte, parse_list_separator}
 use Rattle.floats.specs.Floats.{channel_of}
 use Rattle.numbers.specs.Digits.{value, cap}
-use Rattle.numbers.specs.Number.{after_item, value_of, parse_list_number, parse_number}
+use Rattle.numbers.specs.Number.{after_item, value_of, parse_list_number}
 use Rattle.numbers.proofs.Values.{number_known}
 use Rattle.color.specs.Color.{rgba, close_bracket, parse_alpha, rgb_plain, after_number, rgb_rest}
 use Rattle.color.specs.declared.ColorRead.TheVariants as C
-use Rattle.fast_numbers.specs.Told.{told_number}
 use Rattle.fast_numbers.specs.declared.ToldNumber.{ToldNumber}
 use Rattle.fast_numbers.proofs.Alone.{digits_alone}
 use Rattle.fast_numbers.proofs.Told.{Read, told_read}

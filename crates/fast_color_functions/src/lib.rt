@@ -1,4 +1,6 @@
 // Colours without their refusals: `rgb` and `hsl` are told sooner, and every other colour as `color` reads it.
+#![tactic(auto)]
+
 ghost use Rattle.std.specs.Prelude.{true, ◌≡◌, ◌+◌, ◌*◌, ◌≤◌, ◌<◌, length};
 ghost use Rattle.text_bytes.specs.Moves.{place};
 ghost use Rattle.numbers.specs.Number.{parse_list_number, parse_list_number_or_percent};
@@ -10,10 +12,10 @@ ghost use Rattle.fast_color_functions.specs.Told.{told_color};
 ghost use Rattle.fast_color_functions.specs.Brackets.{rgb_numbers, rgb_blue, hsl_numbers};
 ghost use Rattle.fast_color_functions.specs.WholeNumbers.{is_stop, WholeAt, Tells};
 
-use text_bytes::Place;
 use color::{Color, ColorRead};
 use fast_numbers::ToldNumber;
 use numbers::LIMIT;
+use text_bytes::Place;
 
 // Where the colour's number begins in what is told, above the place where reading goes on.
 pub const TOLD_COLOR: u64 = 0x2000;

@@ -1,4 +1,6 @@
 // A step of a list of filter values, sooner: what is told at once is written straight into its record, and the plain reader answers the rest.
+#![tactic(auto)]
+
 ghost use Rattle.std.specs.Prelude.{◌≡◌, ◌+◌, ◌≤◌, length};
 ghost use Rattle.std.proofs.Math.Seq.{paste};
 ghost use Rattle.utf8.specs.Characters.{utf8_of};
@@ -8,11 +10,11 @@ ghost use Rattle.filter_functions.specs.Filters.{step_of, next_filter};
 ghost use Rattle.records.specs.Records.{filter_record};
 ghost use Rattle.fast_filter_functions.specs.Told.{written_if};
 
-use text_bytes::Place;
 use fast_length::ToldLength;
 use filter_functions::{FilterStep, Plain, StepRead};
 use records::written;
 use stream::Admission;
+use text_bytes::Place;
 
 mod shadow;
 mod values;
@@ -21,7 +23,7 @@ use shadow::shadow_told;
 use values::{blur_told, degrees_told, plain_told, url_told};
 
 // A shadow's lengths, one after the other.
-#[derive(Drop)]
+#[derive(Clone, Copy)]
 struct ToldLengths {
     dx: ToldLength,
     dy: ToldLength,

@@ -6,11 +6,11 @@ ghost use Rattle.fast_filter_functions.specs.Told.{written_if, after_bracket, le
 
 use crate::ToldLengths;
 use crate::values::{after_bracket, is_offset, is_radius};
-use text_bytes::Place;
 use color::ColorRead;
 use fast_length::ToldLength;
 use filter_functions::{Shadow, ShadowColor};
 use length::Length;
+use text_bytes::Place;
 
 pub fn shadow_told(out: &mut [u64], k: usize, text: &[u8], at: Place) -> bool
     requires text_len_bound { length text.now ≤ 4096 }

@@ -7,11 +7,11 @@ ghost use Rattle.fast_numbers.specs.Told.{told_number};
 ghost use Rattle.fast_filter_functions.specs.Kinds.{plain_number};
 ghost use Rattle.fast_filter_functions.specs.Told.{written_if, after_bracket, is_offset, is_radius, opened};
 
-use text_bytes::Place;
 use fast_length::ToldLength;
 use fast_numbers::ToldNumber;
 use filter_functions::Plain;
 use records::written;
+use text_bytes::Place;
 
 // The place after a closing bracket and the spaces behind it, or 0.
 pub fn after_bracket(text: &[u8], at: Place) -> Place

@@ -1,11 +1,13 @@
 // Links as whole texts, sooner: most are `url(#name)` or `#name` of ASCII bytes that no reader has to judge, and nothing else.
+#![tactic(auto)]
+
 ghost use Rattle.std.specs.Prelude.{◌≡◌, ◌+◌, ◌≤◌, leb, length};
 ghost use Rattle.text_bytes.specs.Scan.{scan};
 ghost use Rattle.funciri.specs.Answers.{iri_from_str, func_iri_from_str};
 ghost use Rattle.fast_funciri.specs.Bare.{is_bare_byte};
 
-use text_bytes::{Part, Place};
 use funciri::LinkAnswer;
+use text_bytes::{Part, Place};
 
 fn is_bare(b: u8) -> bool
     ensures { result ≡ is_bare_byte b }

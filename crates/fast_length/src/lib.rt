@@ -1,4 +1,6 @@
 // A length and a step of a list of lengths, sooner. No fault is carried where no number starts: the refusal is made where it is answered.
+#![tactic(auto)]
+
 ghost use Rattle.std.specs.Prelude.{◌≡◌, cond, ◌+◌, ◌≤◌, eqb, length};
 ghost use Rattle.std.proofs.Math.Seq.{paste};
 ghost use Rattle.length.specs.declared.LengthUnit;
@@ -11,14 +13,14 @@ ghost use Rattle.records.specs.Records.{length_step_record};
 ghost use Rattle.fast_length.specs.Told.{told_length};
 ghost use Rattle.fast_length.specs.Inner.{with_unit, written_number, no_number_at};
 
-use text_bytes::Place;
 use fast_numbers::ToldNumber;
 use length::{Length, LengthAnswer, LengthStep, LengthUnit};
 use numbers::{Number, NumberRead};
 use stream::{Admission, Refusal};
+use text_bytes::Place;
 
 // A length without its refusal: the place 0 where none is read.
-#[derive(Drop)]
+#[derive(Clone, Copy)]
 pub struct ToldLength {
     pub number: f64,
     pub unit: LengthUnit,

@@ -86,3 +86,6 @@ pub long_none : (n k l : ℕ) → None k (numbers head n) → T (all_told head n
 unfolding of_long of_length
 long_none n k l u h =
     sym (found_none head n (λ a. eqb k (head a) && eqb l (tail a)) (λ a z. rw (ne_eqb _ _ z)) (numbers head n) u keywords (sym (holds_true _ h)))
+
+-- what each arm of a `match` on letters goes by
+pub ruleset arms = (three_at, short_at, long_at, long_both)

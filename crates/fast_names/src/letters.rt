@@ -1,4 +1,6 @@
 // Names as they are written in small letters, by their letters as numbers.
+#![tactic(auto, using(crate::proofs::Arms::arms), unfolding(crate::specs::Letters::four, crate::specs::Letters::short, crate::specs::Letters::head, crate::specs::Letters::tail, crate::specs::Letters::found, crate::specs::Letters::of_length, crate::specs::Letters::of_three, crate::specs::Letters::of_short, crate::specs::Letters::of_long, crate::specs::Letters::three, names::specs::Keywords::keywords, crate::specs::Named::named_number, packed::specs::Numbers::color_number))]
+
 ghost use Rattle.std.specs.Prelude.{cond, ◌≡◌, ◌+◌, ◌^◌, ◌≤◌, ◌<◌, eqb, length};
 ghost use Rattle.text_bytes.specs.Words.{same};
 ghost use Rattle.names.specs.Keywords.{keywords};

@@ -1,4 +1,6 @@
 // The colour that a word names, as one number: `names`, sooner.
+#![tactic(auto)]
+
 ghost use Rattle.std.specs.Prelude.{◌≡◌, ◌≤◌, eqb, length};
 ghost use Rattle.text_bytes.specs.Scan.{scan};
 ghost use Rattle.names.specs.Look.{named_of};

@@ -1,4 +1,6 @@
 // A number without its refusal, sooner. Most are digits with a short fraction or none, and start with a digit.
+#![tactic(auto)]
+
 ghost use Rattle.std.specs.Prelude.{◌≡◌, true, false, ◌≤◌, ◌<◌, length, get_or};
 ghost use Rattle.numbers.specs.Digits.{cap};
 ghost use Rattle.numbers.specs.Powers.{power_of};
@@ -6,11 +8,11 @@ ghost use Rattle.numbers.specs.Number.{exponent_at, value_of, parse_number};
 ghost use Rattle.fast_numbers.specs.Leads.{lead_at, Begun};
 ghost use Rattle.fast_numbers.specs.Told.{no_number, told_number};
 
-use text_bytes::Place;
 use numbers::{Digits, LIMIT, NumberRead};
+use text_bytes::Place;
 
 // A number without its refusal: its value, whether it was written with neither dot nor exponent, and where its text ends, the place 0 where none is read.
-#[derive(Drop)]
+#[derive(Clone, Copy)]
 pub struct ToldNumber {
     pub value: f64,
     pub whole: bool,
@@ -18,7 +20,7 @@ pub struct ToldNumber {
 }
 
 // Where a number's first digit or dot is, and whether a minus stands before it.
-#[derive(Drop)]
+#[derive(Clone, Copy)]
 struct Lead {
     from: Place,
     minus: bool,

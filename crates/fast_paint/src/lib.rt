@@ -1,4 +1,6 @@
 // A paint as a whole text, sooner: what most texts are is told as one number, and the plain reader reads the rest.
+#![tactic(auto)]
+
 ghost use Rattle.std.specs.Prelude.{true, ◌≡◌, ◌+◌, ◌*◌, ◌≤◌, ◌<◌, length, get_or};
 ghost use Rattle.text_bytes.specs.Bytes.{within, is_space};
 ghost use Rattle.text_bytes.specs.Scan.{scan};
@@ -9,8 +11,8 @@ ghost use Rattle.paint.specs.Answers.{from_str};
 ghost use Rattle.fast_paint.specs.Inked.{Inked};
 ghost use Rattle.fast_paint.specs.Told.{inner_number, keyword_of, or_told, with_fallback, with_rest, uncolored};
 
-use text_bytes::{Part, Place};
 use packed::{COLOR, FALLBACK, LEN, NO_COLOR, NO_PAINT, PLACES, START};
+use text_bytes::{Part, Place};
 
 mod numbered;
 

@@ -5,9 +5,9 @@ ghost use Rattle.packed.specs.Numbers.{paint_answer_number};
 ghost use Rattle.records.specs.Records.{paint_record, record_for};
 
 use crate::{INVALID, PAST_INVALID, told};
-use text_bytes::Place;
 use packed::{NO_PAINT, PLACES};
 use paint::PaintAnswer;
+use text_bytes::Place;
 
 pub fn number(text: &[u8], answer: &mut [u64; 24]) -> u64
     ensures value { result ≡ paint_answer_number (from_str text.now) }
