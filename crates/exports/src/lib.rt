@@ -1,4 +1,6 @@
 // The C boundary: every outside call. A text is lent as (pointer, length); the answer is written into a record of 24 numbers.
+#![tactic(auto)]
+
 ghost use Rattle.std.specs.Prelude.{◌≡◌, length};
 ghost use Rattle.records.specs.Many.{fitting, filled, told_of, filter_at, length_at};
 ghost use Rattle.records.specs.Records.{color_record, length_record, length_step_record, angle_record, link_record, paint_record, inherited_record, filter_record, record_for};
@@ -19,9 +21,9 @@ ghost use Rattle.set_back.specs.Texts.{hex_text};
 ghost use Rattle.strict.specs.Answer.{strict_from_str};
 ghost use Rattle.strict.specs.Asked.{asked_of};
 
-use text_bytes::Place;
 use color::Color;
 use paint::PaintAnswer;
+use text_bytes::Place;
 
 mod many;
 

@@ -6,7 +6,7 @@ pub const TEXT: usize = 8192;
 
 pub type Text = [u8; TEXT];
 
-#[derive(Drop)]
+#[derive(Clone, Copy)]
 pub enum Number {
     Value(usize),
     Wrong,

@@ -1,5 +1,7 @@
 // Answers cases: one line in, one line out, by the line protocol of the runs.
 // A test program: what it writes is held to the file `stdout`. Proved is that it is safe and that it ends.
+#![tactic(auto)]
+
 mod calls;
 mod cases;
 mod fields;
@@ -7,77 +9,72 @@ mod lines;
 mod out;
 mod words;
 
-use libc::{STDIN_FILENO, STDOUT_FILENO};
 use out::Line;
+use std::io;
+use std::io::Read;
+
+// What one read takes at most.
+const CHUNK: usize = 65536;
 
 // What a turn of reading leaves: so many bytes of a line that has not ended, or the end of the input.
-#[derive(Drop)]
+#[derive(Clone, Copy)]
 enum Fed {
     More(usize),
     End,
 }
 
-fn answer(line: &[u8]) {
+fn answer(rt: &impl Print, line: &[u8]) -> io::Result<()> {
     let mut space = [0; out::LINE];
     let k = cases::case_line(&mut space, line);
     if k == 0 {
-        io::write_all(STDOUT_FILENO, b"?\n");
-        return;
+        return rt.write_all(b"?\n");
     }
     let n = out::put(&mut space, k, b'\n');
-    io::write_all(STDOUT_FILENO, out::written(&space, 1, n));
+    rt.write_all(out::written(&space, 1, n))
 }
 
 // One byte of input more: at a line feed the line is answered and begins anew. A line that fills the buffer is no case.
-fn step(line: &mut Line, n: usize, b: u8) -> usize {
+fn step(rt: &impl Print, line: &mut Line, n: usize, b: u8) -> io::Result<usize> {
     if b == b'\n' {
-        answer(out::written(line, 0, n));
-        return 0;
+        answer(rt, out::written(line, 0, n))?;
+        return Ok(0);
     }
-    out::put(line, n, b)
+    Ok(out::put(line, n, b))
 }
 
-fn feed(line: &mut Line, n: usize, chunk: &[u8]) -> usize {
+fn feed(rt: &impl Print, line: &mut Line, n: usize, chunk: &[u8]) -> io::Result<usize> {
     let mut k = n;
-    let mut i: usize = 0;
-    while i < chunk.len() {
-        k = step(line, k, chunk[i]);
-        i += 1;
+    for b in chunk {
+        k = step(rt, line, k, *b)?;
     }
-    k
+    Ok(k)
 }
 
-fn turn(line: &mut Line, n: usize) -> Fed {
-    let mut chunk = io::large_buffer();
-    let got = libc::read(STDIN_FILENO, &mut chunk);
-    let k = io::count(got, &chunk);
+fn turn(rt: &impl Print, input: &mut impl Read, line: &mut Line, n: usize) -> io::Result<Fed> {
+    let mut chunk = [0; CHUNK];
+    let k = input.read(&mut chunk)?;
     if k == 0 {
-        return Fed::End;
+        return Ok(Fed::End);
     }
-    Fed::More(feed(line, n, &chunk[..k]))
+    Ok(Fed::More(feed(rt, line, n, &chunk[..k])?))
 }
 
-// The turns are counted down from a number that no run uses up: a proved loop ends.
-fn read_lines(line: &mut Line) {
+// The turns are counted to a number that no run uses up: a proved loop ends.
+fn read_lines(rt: &impl Print, input: &mut impl Read, line: &mut Line) -> io::Result<()> {
     let mut n: usize = 0;
-    let mut turns = u64::MAX;
-    while turns > 0 {
-        match turn(line, n) {
-            Fed::More(k) => {
-                n = k;
-                turns -= 1;
-            }
-            Fed::End => {
-                if 0 < n {
-                    answer(out::written(line, 0, n));
-                }
-                return;
-            }
+    for _ in 0..u64::MAX {
+        match turn(rt, input, line, n)? {
+            Fed::More(k) => n = k,
+            Fed::End => break,
         }
     }
+    if 0 < n {
+        return answer(rt, out::written(line, 0, n));
+    }
+    Ok(())
 }
 
-fn main() {
+fn main(rt: HostRuntime) -> io::Result<()> {
     let mut line = [0; out::LINE];
-    read_lines(&mut line);
+    read_lines(&rt, &mut rt.stdin(), &mut line)
 }

@@ -1,5 +1,6 @@
 // An answer line, put together byte by byte. What does not fit is dropped: no answer is longer than the line's room.
 use crate::words::bytes_between;
+use itoa::Buffer;
 
 pub const LINE: usize = 32768;
 
@@ -37,26 +38,30 @@ pub fn put_name(out: &mut Line, at: usize, word: &[u8]) -> usize {
 
 // What stands before the number, then the number.
 pub fn put_decimal(out: &mut Line, at: usize, before: u8, n: u64) -> usize {
-    let mut digits = [0u8; 20];
-    let len = io::decimal(n, &mut digits);
+    let mut buffer = Buffer::new();
+    let digits = buffer.format(n);
     let k = put(out, at, before);
-    put_word(out, k, &digits[..len])
+    put_word(out, k, digits.as_bytes())
 }
 
-fn put_digits(out: &mut Line, at: usize, n: u64, width: usize) -> usize {
-    let mut digits = [0u8; 16];
-    let k = io::hex(n, width, &mut digits);
-    put_word(out, at, &digits[..k])
+// The lowest four bits as a hex digit.
+fn put_digit(out: &mut Line, at: usize, n: u8) -> usize {
+    let digits = b"0123456789abcdef";
+    put(out, at, digits[(n % 16) as usize])
 }
 
 // A space, then a float's bits, 16 hex digits.
 pub fn put_bits(out: &mut Line, at: usize, bits: u64) -> usize {
-    let k = put(out, at, b' ');
-    put_digits(out, k, bits, 16)
+    let mut k = put(out, at, b' ');
+    for b in bits.to_be_bytes() {
+        k = put_byte(out, k, b);
+    }
+    k
 }
 
 fn put_byte(out: &mut Line, at: usize, b: u8) -> usize {
-    put_digits(out, at, b as u64, 2)
+    let k = put_digit(out, at, b / 16);
+    put_digit(out, k, b)
 }
 
 // A space, then the bytes as hex, `-` for none.
