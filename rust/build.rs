@@ -8,7 +8,7 @@ use std::fs;
 use std::path::{Path, PathBuf};
 use std::process::{exit, Command};
 
-/// The name that `rt staticlib exports` gives to the archive.
+/// The name that `rt lib` gives to the archive, in crates/exports/out.
 const ARCHIVE: &str = "libexports.a";
 
 fn main() {
@@ -25,8 +25,6 @@ fn main() {
     }
     println!("cargo:rustc-link-search=native={}", out.display());
     println!("cargo:rustc-link-lib=static=homeludaf_exports");
-    // The readers of hsl colours call `fmod`.
-    println!("cargo:rustc-link-lib=m");
 }
 
 /// The archive that `HOMELUDAF_LIB` names, itself or by its directory.
@@ -47,16 +45,16 @@ fn named_archive(named: &Path) -> PathBuf {
     archive
 }
 
-/// The archive made by `rt staticlib exports` at the top of the repository that this crate lies in.
+/// The archive made by `rt lib` in crates/exports of the repository that this crate lies in.
 ///
-/// Made anew when a source of it has changed; the archive itself is younger than this run, and
-/// would have Cargo run this each time.
+/// Made anew when a source of it has changed. Each crate's out/ is left out: what `rt` writes there
+/// is younger than this run, and would have Cargo run this each time.
 fn made_archive() -> PathBuf {
     const ELSE: &str = "set HOMELUDAF_LIB to the archive or to its directory";
     let arch = env::var("CARGO_CFG_TARGET_ARCH").unwrap_or_default();
     if arch != "x86_64" {
         stop(&format!(
-            "`rt staticlib` makes archives for x86-64 and this is {arch}: {ELSE}"
+            "`rt lib` makes archives for x86-64 and this is {arch}: {ELSE}"
         ));
     }
     let manifest = PathBuf::from(env::var_os("CARGO_MANIFEST_DIR").expect("Cargo sets it"));
@@ -69,21 +67,32 @@ fn made_archive() -> PathBuf {
             top.display()
         ));
     }
-    println!("cargo:rerun-if-changed={}", top.join("crates").display());
-    match Command::new("rt")
-        .args(["staticlib", "exports"])
-        .current_dir(top)
-        .output()
-    {
-        Err(e) => stop(&format!("cannot run `rt staticlib exports` ({e}): {ELSE}")),
+    for source in sources(top) {
+        println!("cargo:rerun-if-changed={}", source.display());
+    }
+    let exports = top.join("crates/exports");
+    match Command::new("rt").arg("lib").current_dir(&exports).output() {
+        Err(e) => stop(&format!("cannot run `rt lib` ({e}): {ELSE}")),
         Ok(ran) if !ran.status.success() => stop(&format!(
-            "`rt staticlib exports` failed in {} ({}): {ELSE}\n{}",
-            top.display(),
+            "`rt lib` failed in {} ({}): {ELSE}\n{}{}",
+            exports.display(),
             ran.status,
+            String::from_utf8_lossy(&ran.stdout),
             String::from_utf8_lossy(&ran.stderr)
         )),
-        Ok(_) => top.join("target/staticlib").join(ARCHIVE),
+        Ok(_) => exports.join("out").join(ARCHIVE),
     }
+}
+
+/// What the archive is made of: crates.txt, and each crate's src, specs and proofs.
+fn sources(top: &Path) -> Vec<PathBuf> {
+    let crates =
+        fs::read_dir(top.join("crates")).unwrap_or_else(|e| stop(&format!("crates/: {e}")));
+    let parts = crates
+        .flatten()
+        .flat_map(|it| ["src", "specs", "proofs"].map(|part| it.path().join(part)))
+        .filter(|it| it.is_dir());
+    parts.chain([top.join("crates.txt")]).collect()
 }
 
 fn stop(why: &str) -> ! {
