@@ -59,7 +59,7 @@ pub record Examples : Type 0 where
   pub percentage : next_filter (ascii "blur(50%)") 0 ≡ F.Refused (refusal 11 6 0 0 0 8) (place 9)
   -- "`hue-rotate(1)` is 13 at 12"
   pub unmarked_angle : next_filter (ascii "hue-rotate(1)") 0 ≡ F.Refused (refusal 13 12 0 0 0 12) (place 13)
-  -- "`drop_shadow(1 2 -3)` is a value with deviation 0"
+  -- "`drop-shadow(1 2 -3)` is a value with deviation 0"
   pub read_past : next_filter (ascii "drop-shadow(1 2 -3)") 0 ≡ F.Value (shadow O.None (plain one) (plain two) zero_length) (place 19)
   -- "`blur()none` gives one value and the end"
   pub value_then_none : next_filter (ascii "blur()none") 0 ≡ F.Value (G.Blur zero_length) (place 6)

@@ -1,4 +1,4 @@
--- A value as one number of 63 bits: from bit 0 its kind as in the paper's record of a paint (1 `none`, 2 `inherit`, 3 `currentColor`, 4 `context_fill`, 5 `context_stroke`, 6 a colour, 7 a link), from bit 3 the link's start, from bit 16 its length, from bit 29 its fallback (0 absent, 1 `none`, 2 `currentColor`, 3 a colour), from bit 31 the colour. 0 is no value's number.
+-- A value as one number of 63 bits: from bit 0 its kind as in the paper's record of a paint (1 `none`, 2 `inherit`, 3 `currentColor`, 4 `context-fill`, 5 `context-stroke`, 6 a colour, 7 a link), from bit 3 the link's start, from bit 16 its length, from bit 29 its fallback (0 absent, 1 `none`, 2 `currentColor`, 3 a colour), from bit 31 the colour. 0 is no value's number.
 use Rattle.std.specs.Prelude.{ℕ, ◌+◌, ◌*◌, ◌/◌, ◌%◌, cond, leb, eqb}
 use Rattle.text_bytes.specs.declared.Part.{Part}
 use Rattle.stream.specs.declared.Refusal.{Refusal}

@@ -28,7 +28,7 @@ paper_fallback F.None = record { kind = 1; color = no_color }
 paper_fallback F.CurrentColor = record { kind = 2; color = no_color }
 paper_fallback (F.Color c) = record { kind = 3; color = c }
 
--- a paint: 1 `none`, 2 `inherit`, 3 `currentColor`, 4 `context_fill`, 5 `context_stroke`, 6 a colour, 7 a link; 0 for a refusal
+-- a paint: 1 `none`, 2 `inherit`, 3 `currentColor`, 4 `context-fill`, 5 `context-stroke`, 6 a colour, 7 a link; 0 for a refusal
 pub record PaperPaint : Type 0 where
   pub kind : ℕ
   pub color : Color

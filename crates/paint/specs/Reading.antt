@@ -39,7 +39,7 @@ parse_plain t =
     then_color (λ e. cond (is_outside_domain e) (R.Refused e (place 0)) (R.Refused (invalid_value e.at.0) (place 0)))
     (parse_color_text t) (λ c p. R.Value (P.Color c))
 
--- "Paint trims, then matches `none`, `inherit`, `currentColor`, `context_fill`, `context_stroke` exactly"
+-- "Paint trims, then matches `none`, `inherit`, `currentColor`, `context-fill`, `context-stroke` exactly"
 unfoldable pub parse_paint : List ℕ → PaintRead
 parse_paint t =
     cond (same t (ascii "none")) (R.Value P.None)

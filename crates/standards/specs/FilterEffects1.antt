@@ -115,7 +115,7 @@ module _ (Colour : Type 0) where
     current : Tint
     tint : Colour → Tint
 
-  -- drop_shadow( [ <color>? && <length>{2,3} ] )
+  -- drop-shadow( [ <color>? && <length>{2,3} ] )
   pub data Shadow : Type 0 where
     bare : Offsets → Shadow
     colour_first : Tint → Blank → List Blank → Offsets → Shadow

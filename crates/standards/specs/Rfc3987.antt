@@ -21,12 +21,12 @@ is_ucschar n =
     || (between 0xfdf0 0xffef n
     || (between 0x10000 0xefffd n && (leb (n % 0x10000) 0xfffd && not (between 0xe0000 0xe0fff n)))))
 
--- ifragment = *( ipchar / "/" / "?" ), ipchar = iunreserved / pct_encoded / sub-delims / ":" / "@", iunreserved = ALPHA / DIGIT / "-" / "." / "_" / "~" / ucschar,
+-- ifragment = *( ipchar / "/" / "?" ), ipchar = iunreserved / pct-encoded / sub-delims / ":" / "@", iunreserved = ALPHA / DIGIT / "-" / "." / "_" / "~" / ucschar,
 -- sub-delims = "!" / "$" / "&" / "'" / "(" / ")" / "*" / "+" / "," / ";" / "="
 unfoldable pub is_fragment : ℕ → Bool
 is_fragment n = between 65 90 n || (between 97 122 n || (between 48 57 n || (is_ucschar n || one_of (ascii "-._~!$&'()*+,;=:@/?") n)))
 
--- pct_encoded = "%" HEXDIG HEXDIG (37)
+-- pct-encoded = "%" HEXDIG HEXDIG (37)
 pub data Piece : Type 0 where
   plain : Of is_fragment → Piece
   pct_encoded : (h l : Digit) → Piece

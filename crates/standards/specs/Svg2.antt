@@ -124,7 +124,7 @@ fallback_text colour (no_paint l) = blanks l ++ ascii "none"
 fallback_text colour (current l) = blanks l ++ ascii "currentColor"
 fallback_text colour (coloured l c) = blanks l ++ colour c
 
--- <paint> = "none | <color> | <url> [none | <color>]? | context_fill | context_stroke", and `inherit`, which every property takes
+-- <paint> = "none | <color> | <url> [none | <color>]? | context-fill | context-stroke", and `inherit`, which every property takes
 pub data Paint (Colour : Type 0) : Type 0 where
   none : Paint Colour
   inherit : Paint Colour
