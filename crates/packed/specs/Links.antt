@@ -1,4 +1,4 @@
--- A paint's link, which only inner contracts speak of: how long it is, 0 where there is none. Where it starts is the paint's linkStart.
+-- A paint's link, which only inner contracts speak of: how long it is, 0 where there is none. Where it starts is the paint's link_start.
 use Rattle.std.specs.Prelude.{ℕ}
 use Rattle.paint.specs.declared.Paint.{Paint}
 use Rattle.paint.specs.declared.Paint.TheVariants as P
