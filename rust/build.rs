@@ -71,7 +71,11 @@ fn made_archive() -> PathBuf {
         println!("cargo:rerun-if-changed={}", source.display());
     }
     let exports = top.join("crates/exports");
-    match Command::new("rt").arg("lib").current_dir(&exports).output() {
+    let made = Command::new("rt")
+        .args(["lib", "--cpu=x86-64"])
+        .current_dir(&exports)
+        .output();
+    match made {
         Err(e) => stop(&format!("cannot run `rt lib` ({e}): {ELSE}")),
         Ok(ran) if !ran.status.success() => stop(&format!(
             "`rt lib` failed in {} ({}): {ELSE}\n{}{}",
