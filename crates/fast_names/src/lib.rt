@@ -16,6 +16,7 @@ const LONGEST: usize = 20;
 
 // The colour's number, letter case ignored; NO_COLOR for a word that names none.
 // Most words are names in small letters; one that has capitals is looked up again, in small letters.
+#[tactic(auto, using(crate::proofs::Written::written))]
 pub fn from_str(word: &[u8]) -> u64
     ensures { result ≡ named_number (named_of word.now) }
 {

@@ -34,6 +34,7 @@ fn is_inherit(paint: Paint) -> bool
 }
 
 // What a text says for itself. A paint refuses an empty text, so it is asked only after that.
+#[tactic(auto, using(stream::proofs::Edges::edges, crate::proofs::Steps::empties, crate::proofs::Steps::paints), unfolding(crate::specs::Rule::asked))]
 fn asked(whose: Whose, text: &[u8]) -> Inheritance
     ensures { result ≡ asked whose text.now }
 {

@@ -100,6 +100,7 @@ fn dot(m: u64, b: u8) -> Act
     Act::Lost
 }
 
+#[tactic(auto, using(text_bytes::proofs::Flows::flow), unfolding(crate::specs::Walk::fraction))]
 fn fraction(m: u64, k: u64, b: u8) -> Act
     ensures { result ≡ fraction m k b }
 {
