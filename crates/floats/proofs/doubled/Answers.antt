@@ -1,5 +1,5 @@
 use Rattle.std.proofs.Common.{◌%◌, ℕ, ap, sym, ◌∙◌, mul-one, mod-eq_of_lt, arith}
-use Rattle.floats.proofs.Turns.{once-more}
+use Rattle.floats.proofs.Turns.{once_more}
 use Rattle.floats.proofs.doubled.Goals as goal
 
 pub loop-init : goal.loop-init
@@ -9,4 +9,4 @@ pub overflow_mul-n : goal.overflow_mul-n
 overflow_mul-n c = let i = c.loop.invariant in omega arith
 
 pub loop-preserved : goal.loop-preserved
-loop-preserved c = once-more c.args.r c.loop.counter c.loop.n c.loop.invariant
+loop-preserved c = once_more c.args.r c.loop.counter c.loop.n c.loop.invariant

@@ -6,20 +6,20 @@ use Rattle.floats.specs.Floats.{sign_of}
 use Rattle.floats.proofs.Bounds.{equal_no_nan}
 use Rattle.floats.proofs.is_sign_negative.Goals as goal
 
-odd-signed : (d : ℕ) (s : Bool) (q k l : ℕ) → sign_of (odd d s q k l) ≡ s
+odd_signed : (d : ℕ) (s : Bool) (q k l : ℕ) → sign_of (odd d s q k l) ≡ s
 unfolding odd
-odd-signed d s zero k l = refl
-odd-signed d s (suc q) k l = refl
+odd_signed d s zero k l = refl
+odd_signed d s (suc q) k l = refl
 
 signed : (s : Bool) (f t : ℕ) → T (not (is_nan (of_fields binary64 s f t))) → s ≡ sign_of (of_fields binary64 s f t)
 unfolding of_fields is_nan
-signed s zero t n = sym (odd-signed 53 s t 0 1074)
+signed s zero t n = sym (odd_signed 53 s t 0 1074)
 signed s (suc f) t n = go (eqb (suc f) 2047) (eqb t 0) n
   where
     go : (a b : Bool) → T (not (is_nan (cond a (cond b (inf s) nan) (odd 53 s (2 ^ 52 + t) f 1074)))) → s ≡ sign_of (cond a (cond b (inf s) nan) (odd 53 s (2 ^ 52 + t) f 1074))
     go true true n = refl
     go true false n = absurd n
-    go false b n = sym (odd-signed 53 s (2 ^ 52 + t) f 1074)
+    go false b n = sym (odd_signed 53 s (2 ^ 52 + t) f 1074)
 
 by_bit : (b : ℕ) → T (not (is_nan (of_bits binary64 b))) → leb (2 ^ 63) b ≡ sign_of (of_bits binary64 b)
 unfolding of_bits

@@ -10,15 +10,15 @@ field b = b % 2 ^ 63 / 2 ^ 52
 small : (c : goal.After-nearest_quotient-q) → c.nearest_quotient-q.result ≤ 2 ^ 24
 small c = let b = c.args.b in subst (λ (q : ℕ). q ≤ 2 ^ 24) (sym c.nearest_quotient-q.ensures) (few (2 ^ 52 + b % 2 ^ 52) 29 (omega arith) (omega arith))
 
-is-2 : (c : goal.After-nearest_quotient-q-then-field-ge872) → let b = c.args.b in c.nearest_quotient-q-then-field-ge872.result ≡ closest (2 ^ 52 + b % 2 ^ 52) (2 ^ (926 - field b))
-is-2 c =
+is_2 : (c : goal.After-nearest_quotient-q-then-field-ge872) → let b = c.args.b in c.nearest_quotient-q-then-field-ge872.result ≡ closest (2 ^ 52 + b % 2 ^ 52) (2 ^ (926 - field b))
+is_2 c =
     let b = c.args.b in
     c.nearest_quotient-q-then-field-ge872.ensures ∙ ap (closest (2 ^ 52 + b % 2 ^ 52)) (unit (926 - field b) (omega arith))
 
-small-2 : (c : goal.After-nearest_quotient-q-then-field-ge872) → c.nearest_quotient-q-then-field-ge872.result ≤ 2 ^ 24
-small-2 c =
+small_2 : (c : goal.After-nearest_quotient-q-then-field-ge872) → c.nearest_quotient-q-then-field-ge872.result ≤ 2 ^ 24
+small_2 c =
     let b = c.args.b in
-    subst (λ (q : ℕ). q ≤ 2 ^ 24) (sym (is-2 c)) (few (2 ^ 52 + b % 2 ^ 52) (926 - field b) (omega arith) (omega arith))
+    subst (λ (q : ℕ). q ≤ 2 ^ 24) (sym (is_2 c)) (few (2 ^ 52 + b % 2 ^ 52) (926 - field b) (omega arith) (omega arith))
 
 pub returns-then-field-ge1151 : goal.returns-then-field-ge1151
 returns-then-field-ge1151 c = in_high c.args.b c.ranges.b.fits c.if-field-ge1151.true c.requires
@@ -44,13 +44,13 @@ nearest_quotient-q-requires-then-field-ge872 c =
     (omega arith, omega arith, omega arith)
 
 pub overflow_add-result-then-field-ge872 : goal.overflow_add-result-then-field-ge872
-overflow_add-result-then-field-ge872 c = let l = small-2 c in omega arith
+overflow_add-result-then-field-ge872 c = let l = small_2 c in omega arith
 
 pub overflow_cast-result-then-field-ge872 : goal.overflow_cast-result-then-field-ge872
-overflow_cast-result-then-field-ge872 c = let l = small-2 c in omega arith
+overflow_cast-result-then-field-ge872 c = let l = small_2 c in omega arith
 
 pub returns-then-field-ge872 : goal.returns-then-field-ge872
-returns-then-field-ge872 c = let a = c.before.before.before.before in in_subnormal a.args.b a.ranges.b.fits c.nearest_quotient-q-then-field-ge872.result (is-2 c) (omega arith) c.if-field-ge897.false
+returns-then-field-ge872 c = let a = c.before.before.before.before in in_subnormal a.args.b a.ranges.b.fits c.nearest_quotient-q-then-field-ge872.result (is_2 c) (omega arith) c.if-field-ge897.false
 
 pub returns : goal.returns
 returns c = let a = c.before.before.before in in_tiny a.args.b a.ranges.b.fits c.if-field-ge872.false
