@@ -1,7 +1,5 @@
-pub mod Steps
 pub mod Shifts
 pub mod Values
-pub mod Stretches
 pub mod Sames
-pub mod Worked
 pub mod Written
+pub mod Worked

@@ -3,50 +3,34 @@ use Prim.Native.Nat.{ℕ, ◌+◌}
 use mathlib.Core.List.{List, ◌++◌}
 use mathlib.Core.Path.{◌≡◌, refl}
 use lib.ListN.{length}
+use Rattle.std.specs.Prelude.{Option, Some, None, Result, Ok}
 use Rattle.text_bytes.specs.Moves.{move_place}
-use Rattle.stream.specs.Moves.{move_fault}
-use Rattle.stream.specs.declared.Fault.{Fault}
-use Rattle.text_bytes.specs.declared.Place.{Place}
 use Rattle.text_bytes.proofs.Shifts.{shifts, cond_push}
-use Rattle.numbers.specs.Moves.{move_number}
-use Rattle.numbers.specs.declared.Number.{Number}
-use Rattle.numbers.proofs.Shifts.{number_shift, number_move, number_push}
-use Rattle.angle.specs.Moves.{move_angle_unit_read, then_unit, move_angle_read, then_angle}
-use Rattle.angle.specs.Angles.{parse_unit, parse_angle}
-use Rattle.angle.specs.declared.AngleUnit.{AngleUnit}
+use Rattle.stream.specs.Moves.{moved, move_read}
+use Rattle.stream.specs.declared.Fault.{Fault}
+use Rattle.stream.specs.declared.Read.{Read}
+use Rattle.stream.proofs.Binds.{bind_moved}
+use Rattle.numbers.specs.Moves.{Number, move_written}
+use Rattle.numbers.specs.Number.{parse_number}
+use Rattle.numbers.specs.declared.Written.{Written}
+use Rattle.numbers.proofs.Shifts.{number_shift}
+use Rattle.angle.specs.Moves.{move_unit}
+use Rattle.angle.specs.Angles.{parse_unit, parse_angle, or_degrees, with_unit}
 use Rattle.angle.specs.declared.Angle.{Angle}
-use Rattle.angle.specs.declared.AngleUnitRead.{AngleUnitRead}
-use Rattle.angle.specs.declared.AngleUnitRead.TheVariants as W
-use Rattle.angle.specs.declared.AngleRead.{AngleRead}
-use Rattle.angle.specs.declared.AngleRead.TheVariants as R
-
-pub unit_move : {B : Type 0} (n : ℕ) (none : B) (x : AngleUnitRead) (k : AngleUnit → Place → B)
-    → then_unit none (move_angle_unit_read n x) k ≡ then_unit none x (λ u p. k u (move_place n p))
-unit_move n none (W.Found u p) k = refl
-unit_move n none W.Missing k = refl
-
-pub unit_push : {A B : Type 0} (f : A → B) (none : A) (x : AngleUnitRead) (k : AngleUnit → Place → A)
-    → f (then_unit none x k) ≡ then_unit (f none) x (λ u p. f (k u p))
-unit_push f none (W.Found u p) k = refl
-unit_push f none W.Missing k = refl
-
-pub angle_move : {B : Type 0} (n : ℕ) (out : Fault → B) (x : AngleRead) (k : Angle → Number → Place → B)
-    → then_angle out (move_angle_read n x) k ≡ then_angle (λ e. out (move_fault n e)) x (λ a v p. k a (move_number n v) (move_place n p))
-angle_move n out (R.Value a v p) k = refl
-angle_move n out (R.Refused e) k = refl
-
-pub angle_push : {A B : Type 0} (f : A → B) (out : Fault → A) (x : AngleRead) (k : Angle → Number → Place → A)
-    → f (then_angle out x k) ≡ then_angle (λ e. f (out e)) x (λ a v p. f (k a v p))
-angle_push f out (R.Value a v p) k = refl
-angle_push f out (R.Refused e) k = refl
+use Rattle.angle.specs.declared.AngleUnit.{AngleUnit}
 
 module _ (a b : List ℕ) where
-  pub unit_shift : (i : ℕ) → parse_unit (a ++ b) (length a + i) ≡ move_angle_unit_read (length a) (parse_unit b i)
+  pub unit_shift : (i : ℕ) → parse_unit (a ++ b) (length a + i) ≡ move_unit (length a) (parse_unit b i)
   unfolding parse_unit
-  unit_shift i = simp (shifts, cond_push (move_angle_unit_read (length a)))
+  unit_shift i = simp (shifts, cond_push (move_unit (length a)))
 
-  pub angle_shift : (i : ℕ) → parse_angle (a ++ b) (length a + i) ≡ move_angle_read (length a) (parse_angle b i)
+  pub angle_shift : (i : ℕ) → parse_angle (a ++ b) (length a + i) ≡ moved (move_read move_written) (length a) (parse_angle b i)
   unfolding parse_angle
-  angle_shift i = simp (number_shift, unit_shift, number_move, unit_move, number_push (move_angle_read (length a)), unit_push (move_angle_read (length a)))
-
-pub ruleset angle_shifts = (unit_shift, angle_shift, unit_move, angle_move)
+  angle_shift i =
+      bind_moved (move_read move_written) (move_read move_written) (length a) (parse_number b i) _ _ _ (number_shift a b i)
+      (λ r. simp unit_shift (unit (length a) r (parse_unit b r.next.0)))
+    where
+      unit : (n : ℕ) (r : Read Number) (u : Option (Read AngleUnit))
+          → ◌≡◌ {A = Result (Read (Written Angle)) Fault} (Ok (with_unit (move_written n r.value) (or_degrees (move_place n r.next) (move_unit n u)))) (Ok (move_read move_written n (with_unit r.value (or_degrees r.next u))))
+      unit n r None = refl
+      unit n r (Some u) = refl

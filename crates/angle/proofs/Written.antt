@@ -1,80 +1,74 @@
--- How the number of an angle was written.
+-- Of a whole text: how the number of its angle was written, and where the stretch of its refusal lies.
 use Prim.Native.Nat.{ℕ, ◌≤◌, ◌<◌}
 use mathlib.Core.Bool.{true}
 use mathlib.Core.List.{List}
 use mathlib.Core.Logic.{◌↔◌}
-use mathlib.Core.Path.{◌≡◌, refl, ap}
-use lib.Dec.{T, ltb}
+use mathlib.Core.Path.{◌≡◌, refl}
+use native.Mathlib.Omega.{arith}
+use lib.Dec.{ltb}
 use lib.ListN.{length, get_or}
+use Rattle.std.specs.Prelude.{Ok, Err, MatchResult}
 use Rattle.text_bytes.specs.Bytes.{is_space}
 use Rattle.text_bytes.specs.Scan.{scan}
-use Rattle.text_bytes.specs.declared.Place.{Place}
 use Rattle.text_bytes.proofs.Ranges.{either}
-use Rattle.stream.specs.Refusals.{refusal_of}
-use Rattle.stream.proofs.Insides.{text_edge}
+use Rattle.stream.specs.Refusals.{Inside, admit_text}
+use Rattle.stream.specs.declared.Read.{Read}
+use Rattle.stream.specs.declared.Refusal.{Refusal}
+use Rattle.stream.proofs.Binds.{bind_holds, bind_known, at_ok, at_err, weaker}
+use Rattle.stream.proofs.Edges.{Admitted, admit_holds, edge_holds}
+use Rattle.stream.proofs.Stretches.{Lies, LiesAt, LiesFrom, data_lies}
+use Rattle.numbers.specs.Moves.{Number}
 use Rattle.numbers.specs.Number.{is_plain, parse_number}
-use Rattle.numbers.specs.declared.Number.{Number}
-use Rattle.numbers.specs.declared.NumberRead.TheVariants as N
-use Rattle.numbers.proofs.Values.{numbers_read, values_all}
+use Rattle.numbers.specs.declared.Written.{Written}
+use Rattle.numbers.proofs.Values.{number_taken}
 use Rattle.numbers.proofs.Wholes.{number_whole, number_end}
-use Rattle.angle.specs.Moves.{then_unit}
-use Rattle.angle.specs.Angles.{parse_unit, parse_angle, parse_whole, from_str}
+use Rattle.angle.specs.Angles.{parse_unit, parse_angle, parse_whole, from_str, or_degrees, with_unit}
 use Rattle.angle.specs.declared.Angle.{Angle}
-use Rattle.angle.specs.declared.AngleUnit.{AngleUnit}
-use Rattle.angle.specs.declared.AngleUnit.TheVariants as U
-use Rattle.angle.specs.declared.AngleUnitRead.{AngleUnitRead}
-use Rattle.angle.specs.declared.AngleUnitRead.TheVariants as W
-use Rattle.angle.specs.declared.AngleRead.TheVariants as R
-use Rattle.angle.specs.declared.AngleAnswer.{AngleAnswer}
-use Rattle.angle.specs.declared.AngleAnswer.TheVariants as O
-use Rattle.angle.proofs.Values.{all_angles, angles_all}
+use Rattle.angle.proofs.Values.{AngleTaken, angle_taken}
 
--- Of an angle at i and its number
-pub record Written (s : List ℕ) (i : ℕ) (a : Angle) (n : Number) : Type 0 where
-  -- THEOREM (document 02, P3). It is `whole` exactly if no byte from its first to its end is a dot, `e` or `E`
-  pub whole : (n.whole ≡ true) ↔ ((j : ℕ) → scan is_space s i ≤ j → j < n.end.0 → is_plain (get_or s j 0) ≡ true)
+-- Of an angle at i
+pub record Says (s : List ℕ) (i : ℕ) (w : Written Angle) : Type 0 where
+  -- THEOREM. It is `whole` exactly if no byte from its number's first to its end is a dot, `e` or `E`
+  pub whole : (w.whole ≡ true) ↔ ((j : ℕ) → scan is_space s i ≤ j → j < w.end.0 → is_plain (get_or s j 0) ≡ true)
   -- THEOREM. Where it ended lies after its first byte and inside the text
-  pub some : scan is_space s i < n.end.0
-  pub inside : n.end.0 ≤ length s
-  -- THEOREM. The angle passes its value on, and has the unit that stands where it ended, degrees where none does
-  pub value : a.number ≡ n.value
-  pub unit : a.unit ≡ then_unit U.Degrees (parse_unit s n.end.0) (λ u q. u)
+  pub some : scan is_space s i < w.end.0
+  pub inside : w.end.0 ≤ length s
+  -- THEOREM. The angle has the number that is read there, and the unit that stands where it ended, degrees where none does
+  pub number : (n : Read Number) × ((parse_number s i ≡ Ok n) × (w.value.number ≡ n.value.value))
+  pub unit : w.value.unit ≡ (or_degrees w.end (parse_unit s w.end.0)).value
 
 module _ (s : List ℕ) (i : ℕ) where
-  written_at : (n : Number) (p : Place) (u : AngleUnit) → parse_number s i ≡ N.Value n p → u ≡ then_unit U.Degrees (parse_unit s p.0) (λ v q. v)
-      → Written s i (record { number = n.value; unit = u }) n
-  written_at n p u e h =
-      let k = number_end s i n p e in
-      let q : n.end.0 ≡ p.0 = ap (λ (x : Place). x.0) k.1.1 in
-      record { whole = number_whole s i n p e; some = k.0; inside = k.1.0; value = refl; unit = rw q h }
+  says_at : (n : Read Number) → parse_number s i ≡ Ok n → Says s i (with_unit n.value (or_degrees n.next (parse_unit s n.next.0))).value
+  says_at n e =
+      let k = number_end s i n e in
+      record { whole = number_whole s i n e; some = k.0; inside = k.1.0; number = (n, (e, refl)); unit = rw k.1.1 refl }
 
-  angle_written : all_angles (λ a n p. Written s i a n) (parse_angle s i)
+  angle_says : MatchResult (parse_angle s i) (λ r. Says s i r.value) (LiesFrom s i)
   unfolding parse_angle
-  angle_written =
-      values_all (all_angles (λ a n p. Written s i a n)) (λ n p. parse_number s i ≡ N.Value n p) (parse_number s i) R.Refused _ (numbers_read (parse_number s i)) (λ e. tt)
-      (λ n p e. go n p (parse_unit s p.0) (λ u h. written_at n p u e h))
-    where
-      go : (n : Number) (p : Place) (x : AngleUnitRead) → ((u : AngleUnit) → u ≡ then_unit U.Degrees x (λ v q. v) → Written s i (record { number = n.value; unit = u }) n)
-          → all_angles (λ a n p. Written s i a n) (then_unit (R.Value (record { number = n.value; unit = U.Degrees }) n p) x (λ u q. R.Value (record { number = n.value; unit = u }) n q))
-      go n p (W.Found u q) f = f u refl
-      go n p W.Missing f = f U.Degrees refl
+  angle_says =
+      bind_known (λ r. Says s i r.value) (LiesFrom s i) (parse_number s i) _
+      (λ f e. at_err _ (LiesFrom s i) (parse_number s i) f (number_taken s i) e) (λ n e. says_at n e)
 
-whole_written : (s : List ℕ) → all_angles (λ a n p. Written s 0 a n) (parse_whole s)
+-- of an angle and nothing after it
+pub whole-says : (s : List ℕ) → MatchResult (parse_whole s) (Says s 0) (LiesAt (length s))
 unfolding parse_whole
-whole_written s =
-    angles_all (all_angles (λ a n p. Written s 0 a n)) (λ a n p. Written s 0 a n) (parse_angle s 0) R.Refused _ (angle_written s 0) (λ e. tt)
-    (λ a n p v. either (ltb p.0 (length s)) (λ t. simp t tt) (λ t. simp t v))
+whole-says s =
+    bind_known (Says s 0) (LiesAt (length s)) (parse_angle s 0) _
+    (λ f e. at_err _ (LiesFrom s 0) (parse_angle s 0) f (angle_taken s 0) e (omega arith))
+    (λ r e.
+    let t = at_ok (AngleTaken s 0) (LiesFrom s 0) (parse_angle s 0) r (angle_taken s 0) e in
+    let v = at_ok (λ x. Says s 0 x.value) (LiesFrom s 0) (parse_angle s 0) r (angle_says s 0) e in
+    either (ltb r.next.0 (length s)) (λ q. simp q (data_lies s r.next.0 t.past.inside)) (λ q. simp q v))
 
--- of a value, if there is one
-abbrev Answers : List ℕ → AngleAnswer → Type 0
-Answers s (O.Value a n) = Written s 0 a n
-Answers s (O.Refused e) = T true
-
--- THEOREM (document 02, P3). So of a whole text
-pub whole_says : (s : List ℕ) (a : Angle) (n : Number) → from_str s ≡ O.Value a n → Written s 0 a n
+-- THEOREM. So of a whole text; and a refusal's stretch starts and ends in the lent text, and not before it starts
+pub text_says : (s : List ℕ) → MatchResult (from_str s) (Says s 0) (Inside (length s))
 unfolding from_str
-whole_says s a n q =
-    let w : Answers s (from_str s) =
-    text_edge (Answers s) s O.Refused _ (λ e h. tt)
-    (λ h. angles_all (Answers s) (λ a n p. Written s 0 a n) (parse_whole s) (λ e. O.Refused (refusal_of s e)) _ (whole_written s) (λ e. tt) (λ a n p v. v)) in
-    rw q at w
+text_says s =
+    bind_holds (λ _. Admitted s) (Says s 0) (Inside (length s)) (admit_text s) _ (admit_holds s)
+    (λ _ _. edge_holds (Says s 0) s (parse_whole s) (weaker (Says s 0) (Says s 0) (LiesAt (length s)) (Lies (length s)) (parse_whole s) (whole-says s) (λ w v. v) (λ f v. v.lies)))
+
+pub whole_says : (s : List ℕ) (w : Written Angle) → from_str s ≡ Ok w → Says s 0 w
+whole_says s w q = at_ok (Says s 0) (Inside (length s)) (from_str s) w (text_says s) q
+
+pub stretch_inside : (s : List ℕ) (e : Refusal) → from_str s ≡ Err e → Inside (length s) e
+stretch_inside s e q = at_err (Says s 0) (Inside (length s)) (from_str s) e (text_says s) q

@@ -1,15 +1,15 @@
 // An angle, and its degrees.
 #![tactic(auto)]
 
-ghost use Rattle.std.specs.Prelude.{◌≡◌, ◌≤◌, length};
+ghost use Rattle.std.specs.Prelude.{◌≡◌, ◌≤◌};
 ghost use Rattle.angle.specs.Angles.{to_degrees, parse_unit, parse_angle, parse_whole, from_str};
 ghost use Rattle.angle.specs.Paper.{paper};
 
-use numbers::{Number, NumberRead};
-use stream::{Admission, Fault, Refusal};
+use numbers::Written;
+use stream::{Fault, Read, Refusal};
 use text_bytes::Place;
 
-#[derive(Clone, Copy)]
+#[derive(Clone, Copy, Debug, PartialEq, Eq)]
 pub enum AngleUnit {
     Degrees,
     Gradians,
@@ -17,7 +17,7 @@ pub enum AngleUnit {
     Turns,
 }
 
-#[derive(Clone, Copy)]
+#[derive(Clone, Copy, Debug, PartialEq)]
 pub struct Angle {
     pub number: f64,
     pub unit: AngleUnit,
@@ -27,105 +27,74 @@ impl Angle {
     pub fn to_degrees(self) -> f64
         ensures { result ≡ to_degrees self }
     {
-        let unit = self.unit;
-        let n = self.number;
-        match unit {
-            AngleUnit::Degrees => n,
-            AngleUnit::Gradians => n * 180.0 / 200.0,
-            AngleUnit::Radians => n * 57.29577951308232,
-            AngleUnit::Turns => n * 360.0,
+        match self.unit {
+            AngleUnit::Degrees => self.number,
+            AngleUnit::Gradians => self.number * 180.0 / 200.0,
+            AngleUnit::Radians => self.number * 57.29577951308232,
+            AngleUnit::Turns => self.number * 360.0,
         }
     }
-}
-
-// A unit and the place after it. An angle takes a missing one as degrees; a filter wants one.
-#[derive(Clone, Copy)]
-pub enum AngleUnitRead {
-    Found(AngleUnit, Place),
-    Missing,
-}
-
-// The angle, its number as it was written, and the place where reading goes on; or why there is none.
-#[derive(Clone, Copy)]
-pub enum AngleRead {
-    Value(Angle, Number, Place),
-    Refused(Fault),
-}
-
-// The angle and its number as it was written, or why there is none.
-#[derive(Clone, Copy)]
-pub enum AngleAnswer {
-    Value(Angle, Number),
-    Refused(Refusal),
 }
 
 // A whole text: leading spaces are allowed, trailing ones are not.
-pub fn from_str(text: &[u8]) -> AngleAnswer
+// As `length`'s and `color`'s but for the reader: two lines, and a function over a reader would want a closure's contract.
+#[tactic(auto, unfolding(crate::specs::Angles::from_str), using(stream::proofs::Edges::admitted_utf8))]
+pub fn from_str(text: &[u8]) -> Result<Written<Angle>, Refusal>
     ensures value { result ≡ from_str text.now }
     ensures result_value { paper result ≡ paper (from_str text.now) }
 {
-    match stream::admit_text(text) {
-        Admission::Refused(refusal) => AngleAnswer::Refused(refusal),
-        Admission::Admitted => match parse_whole(text) {
-            AngleRead::Refused(e) => AngleAnswer::Refused(stream::refusal_of(text, e)),
-            AngleRead::Value(a, n, _) => AngleAnswer::Value(a, n),
-        },
-    }
+    stream::admit_text(text)?;
+    parse_whole(text).map_err(|e| stream::refusal_of(text, e))
 }
 
 // An angle, and nothing after it.
-fn parse_whole(text: &[u8]) -> AngleRead
-    requires { length text.now ≤ 4096 }
+#[tactic(auto, unfolding(crate::specs::Angles::parse_whole))]
+fn parse_whole(text: &[u8]) -> Result<Written<Angle>, Fault>
     ensures { result ≡ parse_whole text.now }
 {
-    match parse_angle(text, Place(0)) {
-        AngleRead::Refused(e) => AngleRead::Refused(e),
-        AngleRead::Value(a, n, p) => {
-            let i = p.0;
-            if i < text.len() {
-                return AngleRead::Refused(stream::unexpected_data(text, p));
-            }
-            AngleRead::Value(a, n, p)
-        }
-    }
+    parse_angle(text, Place(0))?.whole(text)
 }
 
 // A number, and a unit directly after it, or degrees.
-pub fn parse_angle(text: &[u8], at: Place) -> AngleRead
-    requires { length text.now ≤ 4096 }
+#[tactic(auto, unfolding(crate::specs::Angles::parse_angle))]
+pub fn parse_angle(text: &[u8], at: Place) -> Result<Read<Written<Angle>>, Fault>
     ensures { result ≡ parse_angle text.now at.0 }
 {
-    match numbers::parse_number(text, at) {
-        NumberRead::Refused(e) => AngleRead::Refused(e),
-        NumberRead::Value(n, p) => {
-            let number = n.value;
-            match parse_unit(text, p) {
-                AngleUnitRead::Missing => {
-                    let unit = AngleUnit::Degrees;
-                    AngleRead::Value(Angle { number, unit }, n, p)
-                }
-                AngleUnitRead::Found(unit, end) => AngleRead::Value(Angle { number, unit }, n, end),
-            }
-        }
-    }
+    let read = numbers::parse_number(text, at)?;
+    let n = read.value;
+    let unit = parse_unit(text, read.next).unwrap_or(Read {
+        value: AngleUnit::Degrees,
+        next: read.next,
+    });
+    Ok(Read {
+        value: Written {
+            value: Angle {
+                number: n.value,
+                unit: unit.value,
+            },
+            whole: n.whole,
+            end: n.end,
+        },
+        next: unit.next,
+    })
 }
 
-// The unit whose word stands at a place. Units are in lower case.
-pub fn parse_unit(text: &[u8], at: Place) -> AngleUnitRead
+// The unit whose word stands at a place. Units are in lower case. An angle takes a missing one as degrees; a filter wants one.
+#[tactic(auto, unfolding(crate::specs::Angles::parse_unit), using(text_bytes::proofs::Wording::word_ends))]
+pub fn parse_unit(text: &[u8], at: Place) -> Option<Read<AngleUnit>>
     ensures { result ≡ parse_unit text.now at.0 }
 {
-    let i = at.0;
-    if text_bytes::starts_with(text, at, b"deg") {
-        return AngleUnitRead::Found(AngleUnit::Degrees, Place(i + 3));
-    }
-    if text_bytes::starts_with(text, at, b"grad") {
-        return AngleUnitRead::Found(AngleUnit::Gradians, Place(i + 4));
-    }
-    if text_bytes::starts_with(text, at, b"rad") {
-        return AngleUnitRead::Found(AngleUnit::Radians, Place(i + 3));
-    }
-    if text_bytes::starts_with(text, at, b"turn") {
-        return AngleUnitRead::Found(AngleUnit::Turns, Place(i + 4));
-    }
-    AngleUnitRead::Missing
+    let (value, width) = if text_bytes::starts_with(text, at, b"deg") {
+        (AngleUnit::Degrees, 3)
+    } else if text_bytes::starts_with(text, at, b"grad") {
+        (AngleUnit::Gradians, 4)
+    } else if text_bytes::starts_with(text, at, b"rad") {
+        (AngleUnit::Radians, 3)
+    } else if text_bytes::starts_with(text, at, b"turn") {
+        (AngleUnit::Turns, 4)
+    } else {
+        return None;
+    };
+    let next = Place(at.0 + width);
+    Some(Read { value, next })
 }

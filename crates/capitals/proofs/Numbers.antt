@@ -9,22 +9,22 @@ use borrow.Author.Tests.{eqb-true, le-ltb, lt-leb}
 use lib.Dec.{eqb, leb, ltb}
 use lib.ListN.{length, get_or, drop, get_or-eq_default}
 use Rattle.text_bytes.specs.Bytes.{within, is_digit, is_sign, is_space}
-use Rattle.text_bytes.specs.Flow.{bind}
+use Rattle.text_bytes.specs.Flow.{◌>>=◌}
+use Rattle.text_bytes.specs.Moves.{place}
 use Rattle.text_bytes.specs.Scan.{scan}
 use Rattle.text_bytes.specs.Words.{lowered, is_curr_byte_eq}
-use Rattle.text_bytes.specs.declared.Place.{Place}
 use Rattle.text_bytes.proofs.Ranges.{either, le_or_lt, and_false}
 use Rattle.text_bytes.proofs.Scans.{scan_here, scan_start, scan_end}
 use Rattle.text_bytes.proofs.Wording.{curr_byte}
-use Rattle.shapes.proofs.Fair.{never}
+use Rattle.shapes.proofs.Fair.{never, never_ok}
 use Rattle.stream.specs.Faults.{unexpected_end, parse_list_separator}
+use Rattle.std.specs.Prelude.{Result, Ok, Err}
 use Rattle.stream.specs.declared.Fault.{Fault}
+use Rattle.stream.specs.declared.Read.{Read}
 use Rattle.stream.specs.declared.Trouble.TheVariants as T
 use Rattle.numbers.specs.Digits.{value, cap}
 use Rattle.numbers.specs.Number.{starts_number, after_sign, mantissa_dot, mantissa_at, exponent_from, exponent_at, scale_of, scaled, finished, number_from, parse_number, parse_number_or_percent, after_item, parse_list_number, parse_list_number_or_percent, refused_at}
-use Rattle.numbers.specs.declared.Number.{Number}
-use Rattle.numbers.specs.declared.NumberRead.{NumberRead}
-use Rattle.numbers.specs.declared.NumberRead.TheVariants as N
+use Rattle.numbers.specs.Moves.{Number}
 use Rattle.capitals.proofs.Cases.{Caseless, by_tests, byte_case, space_case, sign_case, digit_case, byte_alike, length_alike, scan_alike, value_alike, curr_alike}
 
 -- an `e` or `E`
@@ -42,12 +42,9 @@ starts_case : Caseless starts_number
 unfolding within
 starts_case = by_tests starts_number tt
 
--- a refusal is no value
-no_number : {C : Type 0} {e : Fault} {n : Number} {p : Place} → N.Refused e ≡ N.Value n p → C
-no_number q = absurd (let z : ◌≡◌ {A = ℕ} 0 1 = cc in omega arith)
-
-value_place : {m n : Number} {p q : Place} → N.Value m p ≡ N.Value n q → p.0 ≡ q.0
-value_place {p} {q} e = let f : p ≡ q = cc in ap (λ (x : Place). x.0) f
+-- where reading goes on
+next_is : {q r : Read Number} → ◌≡◌ {A = Result (Read Number) Fault} (Ok q) (Ok r) → q.next.0 ≡ r.next.0
+next_is {q} {r} e = let f : q ≡ r = cc in ap (λ (x : Read Number). x.next.0) f
 
 -- a class that has neither of two bytes does not have a byte that is one of them
 pub neither : (x y : ℕ) (f : ℕ → Bool) → f x ≡ false → f y ≡ false → (b : ℕ) → (eqb b x || eqb b y) ≡ true → f b ≡ false
@@ -62,8 +59,8 @@ scan_stays p s i e =
     ⊎_elim (λ (l : length s ≤ i). sym (scan_end (scan_start p s i) l)) (λ (l : i < length s). scan_here p s i e l) (le_or_lt (length s) i)
 
 -- a number that is read ends where its exponent does
-module _ (s : List ℕ) (start : ℕ) {n : Number} {p : Place} (q : number_from s start ≡ N.Value n p) where
-  number_parts : ((exponent_at s (mantissa_at s (after_sign s start)).end.0).ok ≡ true) × ((exponent_at s (mantissa_at s (after_sign s start)).end.0).end.0 ≡ p.0)
+module _ (s : List ℕ) (start : ℕ) {r : Read Number} (q : number_from s start ≡ Ok r) where
+  number_parts : ((exponent_at s (mantissa_at s (after_sign s start)).end.0).ok ≡ true) × ((exponent_at s (mantissa_at s (after_sign s start)).end.0).end.0 ≡ r.next.0)
   unfolding number_from finished scaled
   number_parts =
       let m = mantissa_at s (after_sign s start) in
@@ -71,10 +68,10 @@ module _ (s : List ℕ) (start : ℕ) {n : Number} {p : Place} (q : number_from 
       either m.ok
       (λ a. either x.ok
       (λ b. either (ltb m.value cap)
-      (λ c. either (leb (scale_of x.minus x.value m.fraction).by 22) (λ d. (b, value_place (simp (a, b, c, d) at q))) (λ d. no_number (simp (a, b, c, d) at q)))
-      (λ c. no_number (simp (a, b, c) at q)))
-      (λ b. no_number (simp (a, b) at q)))
-      (λ a. no_number (simp a at q))
+      (λ c. either (leb (scale_of x.minus x.value m.fraction).by 22) (λ d. (b, next_is (simp (a, b, c, d) at q))) (λ d. never_ok (simp (a, b, c, d) at q)))
+      (λ c. never_ok (simp (a, b, c) at q)))
+      (λ b. never_ok (simp (a, b) at q)))
+      (λ a. never_ok (simp a at q))
 
 unit_digit : (b : ℕ) → is_unit b ≡ true → is_digit b ≡ false
 unfolding within
@@ -117,22 +114,22 @@ module _ (s t : List ℕ) (h : lowered s ≡ lowered t) where
       (λ v. simp (byte_alike s t h is_e e_case at, e, u, v, sign_alike (at + 1), byte_alike s t h (λ b. eqb b 45) (byte_case 45 tt) (at + 1)) (from_alike (after_sign s (at + 1)) (eqb (get_or s (at + 1) 0) 45)))))
       (λ e. simp (byte_alike s t h is_e e_case at, e))
 
-  from_kept : (start : ℕ) (n : Number) (p : Place) → number_from s start ≡ N.Value n p → is_e (get_or s p.0 0) ≡ false → number_from t start ≡ N.Value n p
+  from_kept : (start : ℕ) (r : Read Number) → number_from s start ≡ Ok r → is_e (get_or s r.next.0 0) ≡ false → number_from t start ≡ Ok r
   unfolding number_from
-  from_kept start n p q g =
+  from_kept start r q g =
       let m = mantissa_at s (after_sign s start) in
       let w = number_parts s start q in
       rw (sign_alike start, mantissa_alike (after_sign s start), byte_alike s t h (λ b. eqb b 45) (byte_case 45 tt) start, exponent_alike m.end.0 w.0 (rw w.1 g)) q
 
   -- the law of a number with no `e` behind it
-  number_kept : (i : ℕ) (n : Number) (p : Place) → parse_number s i ≡ N.Value n p → is_e (get_or s p.0 0) ≡ false → parse_number t i ≡ N.Value n p
-  unfolding parse_number bind
-  number_kept i n p q g =
+  number_kept : (i : ℕ) (r : Read Number) → parse_number s i ≡ Ok r → is_e (get_or s r.next.0 0) ≡ false → parse_number t i ≡ Ok r
+  unfolding parse_number
+  number_kept i r q g =
       let start = scan is_space s i in
-      either (leb (length s) start) (λ a. no_number (simp a at q))
+      either (leb (length s) start) (λ a. never_ok (simp a at q))
       (λ a. either (starts_number (get_or s start 0))
-      (λ b. simp (scan_alike s t h is_space space_case i, length_alike s t h, byte_alike s t h starts_number starts_case start, a, b) (from_kept start n p (simp (a, b) at q) g))
-      (λ b. no_number (simp (a, b) at q)))
+      (λ b. simp (scan_alike s t h is_space space_case i, length_alike s t h, byte_alike s t h starts_number starts_case start, a, b) (from_kept start r (simp (a, b) at q) g))
+      (λ b. never_ok (simp (a, b) at q)))
 
 -- where an `e` stands no number is read, and neither a space nor a comma is passed
 module _ (s : List ℕ) (i : ℕ) (e : is_e (get_or s i 0) ≡ true) where
@@ -151,70 +148,76 @@ module _ (s : List ℕ) (i : ℕ) (e : is_e (get_or s i 0) ≡ true) where
   unfolding parse_list_separator
   e_separator = simp (e_curr 44 refl refl)
 
-  e_number : parse_number s i ≡ refused_at T.WrongByte i i
-  unfolding parse_number bind within
+  e_number : parse_number s i ≡ Err (refused_at T.WrongByte i i)
+  unfolding parse_number within
   e_number = simp (e_scan, lt-leb (length s) i e_inside, neither 101 69 starts_number refl refl (get_or s i 0) e)
 
 -- two readers of a number: what the first reads of s, with no `e` behind it, the second reads of t; and the first reads none where an `e` stands
-pub record Keeps (s : List ℕ) (x y : ℕ → NumberRead) : Type 0 where
-  pub same : (i : ℕ) (n : Number) (p : Place) → x i ≡ N.Value n p → is_e (get_or s p.0 0) ≡ false → y i ≡ N.Value n p
-  pub none : (i : ℕ) (n : Number) (p : Place) → is_e (get_or s i 0) ≡ true → x i ≡ N.Value n p → ⊥
+pub record Keeps (s : List ℕ) (x y : ℕ → Result (Read Number) Fault) : Type 0 where
+  pub same : (i : ℕ) (r : Read Number) → x i ≡ Ok r → is_e (get_or s r.next.0 0) ≡ false → y i ≡ Ok r
+  pub none : (i : ℕ) (r : Read Number) → is_e (get_or s i 0) ≡ true → x i ≡ Ok r → ⊥
+
+-- what is read and gone on from is read
+pub shut_first : {B : Type 0} (x : Result (Read Number) Fault) (f : Read Number → Result B Fault) {b : B} → ((r : Read Number) → x ≡ Ok r → ⊥) → (x >>= f) ≡ Ok b → ⊥
+shut_first (Ok r) f n q = n r refl
+shut_first (Err e) f n q = never_ok q
 
 module _ (s t : List ℕ) (h : lowered s ≡ lowered t) where
   pub numbers : Keeps s (parse_number s) (parse_number t)
-  numbers = record { same = number_kept s t h; none = λ i n p e q. no_number (sym (e_number s i e) ∙ q) }
+  numbers = record { same = number_kept s t h; none = λ i r e q. never_ok (sym (e_number s i e) ∙ q) }
 
   -- a `%` is no `e`
   percents : Keeps s (parse_number_or_percent s) (parse_number_or_percent t)
   unfolding parse_number_or_percent
   percents =
       record {
-        same = λ i n p q g. go i n p (parse_number s i) refl q g;
-        none = λ i n p e q. no_number (simp (e_number s i e) at q);
+        same = λ i r q g. go i r (parse_number s i) refl q g;
+        none = λ i r e q. shut_first (parse_number s i) _ (λ m f. (numbers).none i m e f) q;
       }
     where
-      go : (i : ℕ) (n : Number) (p : Place) (x : NumberRead) → parse_number s i ≡ x → parse_number_or_percent s i ≡ N.Value n p → is_e (get_or s p.0 0) ≡ false → parse_number_or_percent t i ≡ N.Value n p
-      go i n p (N.Refused f) r q g = no_number (simp r at q)
-      go i n p (N.Value m k) r q g =
-          either (is_curr_byte_eq s k.0 37)
-          (λ c. simp (number_kept s t h i m k r (rw (curr_byte s k.0 37 (sym c) refl) refl), curr_alike s t h k.0 37 (byte_case 37 tt), c) (simp (r, c) at q))
+      go : (i : ℕ) (r : Read Number) (x : Result (Read Number) Fault) → parse_number s i ≡ x → parse_number_or_percent s i ≡ Ok r → is_e (get_or s r.next.0 0) ≡ false → parse_number_or_percent t i ≡ Ok r
+      go i r (Err f) k q g = never_ok (simp k at q)
+      go i r (Ok m) k q g =
+          either (is_curr_byte_eq s m.next.0 37)
+          (λ c. simp (number_kept s t h i m k (rw (curr_byte s m.next.0 37 (sym c) refl) refl), curr_alike s t h m.next.0 37 (byte_case 37 tt), c) (simp (k, c) at q))
           (λ c.
-          let j : k.0 ≡ p.0 = value_place (simp (r, c) at q) in
-          simp (number_kept s t h i m k r (rw j g), curr_alike s t h k.0 37 (byte_case 37 tt), c) (simp (r, c) at q))
+          let j : m.next.0 ≡ r.next.0 = next_is (simp (k, c) at q) in
+          simp (number_kept s t h i m k (rw j g), curr_alike s t h m.next.0 37 (byte_case 37 tt), c) (simp (k, c) at q))
 
   -- spaces and a comma after it
-  pub separator_alike : (i : ℕ) → parse_list_separator t i ≡ parse_list_separator s i
+  separator_alike : (i : ℕ) → parse_list_separator t i ≡ parse_list_separator s i
   unfolding parse_list_separator
   separator_alike i = rw (curr_alike s t h i 44 (byte_case 44 tt)) refl
 
-  module _ (x y : ℕ → NumberRead) (k : Keeps s x y) where
-    item_kept : (i : ℕ) (n : Number) (p : Place) → after_item s (x i) ≡ N.Value n p → is_e (get_or s p.0 0) ≡ false → after_item t (y i) ≡ N.Value n p
-    unfolding after_item bind
-    item_kept i n p q g = go (x i) refl
-      where
-        go : (z : NumberRead) → x i ≡ z → after_item t (y i) ≡ N.Value n p
-        go (N.Refused f) r = no_number (simp r at q)
-        go (N.Value m j) r =
-            let w : parse_list_separator s (scan is_space s j.0) ≡ p.0 = value_place (simp r at q) in
-            either (is_e (get_or s j.0 0)) (λ e. never (sym (rw (← w, e_scan s j.0 e, e_separator s j.0 e) at g) ∙ e))
-            (λ e. simp (k.same i m j r e, scan_alike s t h is_space space_case j.0, separator_alike (scan is_space s j.0)) (simp r at q))
+  pub item_alike : (i : ℕ) → after_item t i ≡ after_item s i
+  item_alike i = rw (scan_alike s t h is_space space_case i) (separator_alike (scan is_space s i))
 
-    listed : Keeps s (λ i. cond (leb (length s) i) (N.Refused (unexpected_end s)) (after_item s (x i))) (λ i. cond (leb (length t) i) (N.Refused (unexpected_end t)) (after_item t (y i)))
-    unfolding after_item
+  module _ (x y : ℕ → Result (Read Number) Fault) (k : Keeps s x y) where
+    abbrev with_item : List ℕ → Read Number → Result (Read Number) Fault
+    with_item u r = Ok (record { value = r.value; next = place (after_item u r.next.0) })
+
+    item_kept : (i : ℕ) (r : Read Number) → (x i >>= with_item s) ≡ Ok r → is_e (get_or s r.next.0 0) ≡ false → (y i >>= with_item t) ≡ Ok r
+    item_kept i r q g = go (x i) refl
+      where
+        go : (z : Result (Read Number) Fault) → x i ≡ z → (y i >>= with_item t) ≡ Ok r
+        go (Err f) e = never_ok (simp e at q)
+        go (Ok m) e =
+            let j = m.next.0 in
+            let w : after_item s j ≡ r.next.0 = next_is (simp e at q) in
+            either (is_e (get_or s j 0)) (λ f. never (sym (rw (← w, e_scan s j f, e_separator s j f) at g) ∙ f))
+            (λ f. rw (k.same i m e f, item_alike j) (rw e at q))
+
+    listed : Keeps s (λ i. cond (leb (length s) i) (Err (unexpected_end s)) (x i >>= with_item s)) (λ i. cond (leb (length t) i) (Err (unexpected_end t)) (y i >>= with_item t))
     listed =
         record {
-          same = λ i n p q g. either (leb (length s) i) (λ l. no_number (simp l at q)) (λ l. simp (length_alike s t h, l) (item_kept i n p (simp l at q) g));
-          none = λ i n p e q. none_item i n p e (x i) refl (simp (lt-leb (length s) i (e_inside s i e)) at q);
+          same = λ i r q g. either (leb (length s) i) (λ l. never_ok (simp l at q)) (λ l. simp (length_alike s t h, l) (item_kept i r (simp l at q) g));
+          none = λ i r e q. shut_first (x i) (with_item s) (λ m f. k.none i m e f) (simp (lt-leb (length s) i (e_inside s i e)) at q);
         }
-      where
-        none_item : (i : ℕ) (n : Number) (p : Place) → is_e (get_or s i 0) ≡ true → (z : NumberRead) → x i ≡ z → after_item s (x i) ≡ N.Value n p → ⊥
-        none_item i n p e (N.Refused f) r q = no_number (simp r at q)
-        none_item i n p e (N.Value m j) r q = k.none i m j e r
 
   pub list_numbers : Keeps s (parse_list_number s) (parse_list_number t)
-  unfolding parse_list_number bind
+  unfolding parse_list_number
   list_numbers = listed (parse_number s) (parse_number t) numbers
 
   pub list_percents : Keeps s (parse_list_number_or_percent s) (parse_list_number_or_percent t)
-  unfolding parse_list_number_or_percent bind
+  unfolding parse_list_number_or_percent
   list_percents = listed (parse_number_or_percent s) (parse_number_or_percent t) percents

@@ -2,52 +2,58 @@
 use Prim.Native.Nat.{ℕ}
 use mathlib.Core.List.{List}
 use mathlib.Core.Path.{◌≡◌, refl, sym, ◌∙◌}
-use Rattle.text_bytes.specs.Flow.{bind}
-use Rattle.text_bytes.proofs.Ranges.{either}
-use Rattle.stream.specs.Refusals.{admit_text}
+use Rattle.std.specs.Prelude.{Result, Ok, Err}
+use Rattle.text_bytes.specs.declared.Place.{Place}
+use Rattle.stream.specs.Refusals.{at_edge}
+use Rattle.stream.specs.declared.Fault.{Fault}
 use Rattle.stream.specs.declared.Refusal.{Refusal}
-use Rattle.stream.specs.declared.Admission.{Admission}
-use Rattle.stream.specs.declared.Admission.TheVariants as M
+use Rattle.shapes.proofs.Fair.{never_ok}
 use Rattle.color.specs.Answer.{from_str}
 use Rattle.color.specs.Color.{parse_color_text}
 use Rattle.color.specs.declared.Color.{Color}
-use Rattle.color.specs.declared.ColorRead.{ColorRead}
-use Rattle.color.specs.declared.ColorRead.TheVariants as C
-use Rattle.color.specs.declared.ColorAnswer.{ColorAnswer}
-use Rattle.color.specs.declared.ColorAnswer.TheVariants as A
-use Rattle.strict.specs.Answer.{strict_of, strict_from_str}
-use Rattle.strict.proofs.Answers.{never_value}
+use Rattle.strict.specs.Answer.{or_not_strict, strict_of, strict_from_str}
 use Rattle.capitals.specs.Capitals.{Alike, Capitals}
 use Rattle.capitals.proofs.Admitted.{admitted_alike}
-use Rattle.capitals.proofs.Colours.{text_kept}
+use Rattle.capitals.proofs.Colours.{Kept, kept_equal, kept_err, kept_bind, text_kept}
 use Rattle.capitals.proofs.Shaped.{strict_alike}
 
-loose : (s t : List ℕ) (c : Color) → Alike s t → from_str s ≡ A.Value c → from_str t ≡ A.Value c
-unfolding from_str
-loose s t c h q = go (admit_text s) refl (parse_color_text s) refl
-  where
-    go : (m : Admission) → admit_text s ≡ m → (x : ColorRead) → parse_color_text s ≡ x → from_str t ≡ A.Value c
-    go (M.Refused e) f x g = never_value (simp f at q)
-    go M.Admitted f (C.Refused e) g = never_value (simp (f, g) at q)
-    go M.Admitted f (C.Value d p) g = simp (admitted_alike s t h, f, (text_kept s t h).same d p g) (simp (f, g) at q)
+-- the two edges
+edge_kept : {A : Type 0} (s t : List ℕ) (x y : Result A Fault) → Kept x y → Kept (at_edge s x) (at_edge t y)
+edge_kept s t (Ok a) y k = rw (k.same a refl) (kept_equal refl)
+edge_kept s t (Err e) y k = kept_err
 
-strict : (s t : List ℕ) (c : Color) → Alike s t → strict_from_str s ≡ A.Value c → strict_from_str t ≡ A.Value c
-unfolding strict_from_str bind
-strict s t c h q = go (from_str s) refl
-  where
-    go : (x : ColorAnswer) → from_str s ≡ x → strict_from_str t ≡ A.Value c
-    go (A.Refused e) f = never_value (simp f at q)
-    go (A.Value d) f =
-        either (strict_of s).whole (λ w. simp (loose s t d h f, strict_alike s t h, w) (simp (f, w) at q)) (λ w. never_value (simp (f, w) at q))
+strict_kept : (s t : List ℕ) (r : Result (Unit {0}) Place) → Kept (or_not_strict s r) (or_not_strict t r)
+strict_kept s t (Ok u) = kept_equal refl
+strict_kept s t (Err p) = kept_err
+
+module _ (s t : List ℕ) (h : Alike s t) where
+  loose_kept : Kept (from_str s) (from_str t)
+  unfolding from_str
+  loose_kept =
+      kept_bind _ _ _ _ (kept_equal (admitted_alike s t h)) (λ _.
+      kept_bind _ _ _ _ (edge_kept s t (parse_color_text s) (parse_color_text t) (text_kept s t h)) (λ _. kept_equal refl))
+
+  strict-kept : Kept (strict_from_str s) (strict_from_str t)
+  unfolding strict_from_str
+  strict-kept =
+      kept_bind _ _ _ _ loose_kept (λ _.
+      kept_bind (or_not_strict s (strict_of s)) (or_not_strict t (strict_of t)) _ _ (rw (strict_alike s t h) (strict_kept s t (strict_of s))) (λ _. kept_equal refl))
 
 -- an answer is a value or a refusal: what refuses the one text cannot accept the other
-module _ (read : List ℕ → ColorAnswer) (kept : (s t : List ℕ) (c : Color) → Alike s t → read s ≡ A.Value c → read t ≡ A.Value c) where
-  refused : (s t : List ℕ) (e : Refusal) → Alike s t → read s ≡ A.Refused e → (f : Refusal) × (read t ≡ A.Refused f)
+module _ (read : List ℕ → Result Color Refusal) (kept : (s t : List ℕ) → Alike s t → Kept (read s) (read t)) where
+  refused : (s t : List ℕ) (e : Refusal) → Alike s t → read s ≡ Err e → (f : Refusal) × (read t ≡ Err f)
   refused s t e h q = go (read t) refl
     where
-      go : (x : ColorAnswer) → read t ≡ x → (f : Refusal) × (read t ≡ A.Refused f)
-      go (A.Value c) r = never_value (sym q ∙ kept t s c (sym h) r)
-      go (A.Refused f) r = (f, r)
+      go : (x : Result Color Refusal) → read t ≡ x → (f : Refusal) × (read t ≡ Err f)
+      go (Ok c) r = never_ok (sym q ∙ (kept t s (sym h)).same c r)
+      go (Err f) r = (f, r)
 
+-- THEOREM
 pub capitals : Capitals
-capitals = record { loose = loose; loose_refused = refused from_str loose; strict = strict; strict_refused = refused strict_from_str strict }
+capitals =
+    record {
+      loose = λ s t c h q. (loose_kept s t h).same c q;
+      loose_refused = refused from_str loose_kept;
+      strict = λ s t c h q. (strict-kept s t h).same c q;
+      strict_refused = refused strict_from_str strict-kept;
+    }

@@ -1,5 +1,3 @@
-pub mod Steps
-pub mod Digits
 pub mod Shifts
 pub mod Values
 pub mod Stretches

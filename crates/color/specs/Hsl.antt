@@ -1,4 +1,4 @@
--- From hue, saturation and lightness to channels. Quotations are of document 01, "Colours". A literal is given by its bits: d.. is an f64, s.. an f32.
+-- From hue, saturation and lightness to channels. What stands in quotation marks is the rule. A literal is given by its bits: d.. is an f64, s.. an f32.
 use Rattle.std.specs.Prelude.{ℕ, cond, Float}
 use Rattle.std.specs.Float.{binary32, binary64}
 use Rattle.std.specs.Float.Ieee.{of_bits, lt, le, add, sub, mul, div, rem}

@@ -1,4 +1,3 @@
-pub mod Moves
 pub mod Hex
 pub mod Hsl
 pub mod Color

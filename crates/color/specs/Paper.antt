@@ -1,16 +1,15 @@
--- Document 01's record of an answer: "A refusal gives number, position .. and a result of zeros".
-use Rattle.stream.specs.Refusals.{bare_refusal}
+-- The record of an answer: the colour, and a result of zeros for a refusal.
+use Rattle.std.specs.Prelude.{Result, Ok, Err}
+use Rattle.stream.specs.Paper.{PaperRefusal, paper_refusal, no_refusal}
 use Rattle.stream.specs.declared.Refusal.{Refusal}
-use Rattle.color.specs.Color.{rgba}
+use Rattle.color.specs.Hex.{rgba}
 use Rattle.color.specs.declared.Color.{Color}
-use Rattle.color.specs.declared.ColorAnswer.{ColorAnswer}
-use Rattle.color.specs.declared.ColorAnswer.TheVariants as A
 
+-- number 0 of the refusal is a value
 pub record Paper : Type 0 where
-  pub refusal : Refusal
+  pub refusal : PaperRefusal
   pub result : Color
 
--- a value has the number 0
-abbrev pub paper : ColorAnswer → Paper
-paper (A.Value c) = record { refusal = bare_refusal 0; result = c }
-paper (A.Refused e) = record { refusal = e; result = rgba 0 0 0 0 }
+unfoldable pub paper : Result Color Refusal → Paper
+paper (Ok c) = record { refusal = no_refusal; result = c }
+paper (Err e) = record { refusal = paper_refusal e; result = rgba 0 0 0 0 }

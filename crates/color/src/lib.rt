@@ -1,19 +1,19 @@
 // Colours: hex digits, `rgb` and `hsl` with their brackets, and names.
 #![tactic(auto)]
 
-ghost use Rattle.std.specs.Prelude.{◌≡◌, ◌+◌, ◌≤◌, length};
-ghost use Rattle.color.specs.Hex.{from_hex, short_hex, hex_pair, short_color, long_color, parse_hex};
+ghost use Rattle.std.specs.Prelude.{◌≡◌, ◌+◌, ◌*◌, ◌≤◌, length};
+ghost use Rattle.color.specs.Hex.{from_hex, parse_hex};
 ghost use Rattle.color.specs.Hsl.{hue_to_rgb, hsl_to_rgb, hsl_color};
-ghost use Rattle.color.specs.Color.{after_number, close_bracket, parse_alpha, rgb_marked, rgb_plain, rgb_rest, parse_rgb, hsl_rest, parse_hsl, is_rgb, is_hsl, named_color, parse_word, parse_color, parse_color_text};
+ghost use Rattle.color.specs.Color.{parse_alpha, channel, parse_rgb, parse_hsl, is_rgb, is_hsl, color_of, rgb_of, named_color, parse_color, parse_color_text};
 ghost use Rattle.color.specs.Answer.{from_str};
 ghost use Rattle.color.specs.Paper.{paper};
 
-use names::Named;
-use numbers::NumberRead;
-use stream::{Admission, Consumed, Fault, Refusal};
+use names::{Named, Rgb};
+use stream::{Fault, Read, Refusal};
 use text_bytes::Place;
 
-#[derive(Clone, Copy)]
+// svgtypes' own type; a keyword's `Rgb` has no alpha to give.
+#[derive(Clone, Copy, Debug, PartialEq, Eq)]
 pub struct Color {
     pub red: u8,
     pub green: u8,
@@ -21,299 +21,82 @@ pub struct Color {
     pub alpha: u8,
 }
 
-// The colour and the place where reading goes on, or why there is none.
-#[derive(Clone, Copy)]
-pub enum ColorRead {
-    Value(Color, Place),
-    Refused(Fault),
-}
-
-#[derive(Clone, Copy)]
-pub enum ColorAnswer {
-    Value(Color),
-    Refused(Refusal),
-}
-
 // A colour as a whole text, for a caller who has promised nothing of it.
-pub fn from_str(text: &[u8]) -> ColorAnswer
+// As `length`'s and `angle`'s but for the reader: a function over a reader would want a closure's contract.
+#[tactic(auto, unfolding(crate::specs::Answer::from_str), using(stream::proofs::Edges::admitted_utf8))]
+pub fn from_str(text: &[u8]) -> Result<Color, Refusal>
     ensures value { result ≡ from_str text.now }
     ensures result_value { paper result ≡ paper (from_str text.now) }
 {
-    match stream::admit_text(text) {
-        Admission::Refused(refusal) => ColorAnswer::Refused(refusal),
-        Admission::Admitted => match parse_color_text(text) {
-            ColorRead::Value(color, _end) => ColorAnswer::Value(color),
-            ColorRead::Refused(e) => ColorAnswer::Refused(stream::refusal_of(text, e)),
-        },
-    }
+    stream::admit_text(text)?;
+    let read = parse_color_text(text).map_err(|e| stream::refusal_of(text, e))?;
+    Ok(read.value)
 }
 
 // A colour as a whole text. What follows it could be an icccolor, which is not read.
-pub fn parse_color_text(text: &[u8]) -> ColorRead
-    requires { length text.now ≤ 4096 }
+#[tactic(auto, unfolding(crate::specs::Color::parse_color_text))]
+pub fn parse_color_text(text: &[u8]) -> Result<Read<Color>, Fault>
     ensures { result ≡ parse_color_text text.now }
 {
-    match parse_color(text, Place(0)) {
-        ColorRead::Refused(e) => ColorRead::Refused(e),
-        ColorRead::Value(color, p) => {
-            let next = text_bytes::skip_spaces(text, p);
-            let i = next.0;
-            if i < text.len() {
-                return ColorRead::Refused(stream::unexpected_data(text, next));
-            }
-            ColorRead::Value(color, Place(text.len()))
-        }
-    }
+    let value = parse_color(text, Place(0))?.spaced(text).whole(text)?;
+    let next = Place(text.len());
+    Ok(Read { value, next })
 }
 
-// A colour, spaces before it skipped.
-pub fn parse_color(text: &[u8], at: Place) -> ColorRead
-    requires { length text.now ≤ 4096 }
+// A colour, spaces before it skipped: `#` and digits, or a word, which begins `rgb(` or `hsl(` or is a name alone.
+#[tactic(auto, unfolding(crate::specs::Color::parse_color, crate::specs::Color::parse_word, text_bytes::specs::Words::part), using(text_bytes::proofs::Scans::scan_ge, text_bytes::proofs::Scans::scan_le))]
+pub fn parse_color(text: &[u8], at: Place) -> Result<Read<Color>, Fault>
     ensures { result ≡ parse_color text.now at.0 }
 {
     let start = text_bytes::skip_spaces(text, at);
-    let i = start.0;
-    if text.len() <= i {
-        return ColorRead::Refused(stream::unexpected_end(text));
+    stream::goes_on(text, start)?;
+    if text[start.0] == b'#' {
+        return parse_hex(text, Place(start.0 + 1));
     }
-    if text[i] == b'#' {
-        return parse_hex(text, Place(i + 1));
+    let end = text_bytes::consume_ascii_ident(text, start);
+    let word = &text[start.0..end.0];
+    if is_rgb(word) {
+        return parse_rgb(text, end);
     }
-    parse_word(text, start)
+    if is_hsl(word) {
+        return parse_hsl(text, end);
+    }
+    named_color(word, end)
 }
 
-// The colour whose hex digits start at a place, the one after the `#`.
-fn parse_hex(text: &[u8], at: Place) -> ColorRead
+// The colour whose hex digits start at a place, the one after the `#`. A short form has each digit twice.
+// `at` lies inside: the `#` stands before it. A total form would have an answer for a case that none meets.
+#[tactic(auto, unfolding(crate::specs::Hex::parse_hex, crate::specs::Hex::long_color, crate::specs::Hex::short_color, crate::specs::Hex::hex_pair, crate::specs::Hex::short_hex, text_bytes::specs::Words::part), using(text_bytes::proofs::Scans::scan_ge, text_bytes::proofs::Scans::scan_le))]
+fn parse_hex(text: &[u8], at: Place) -> Result<Read<Color>, Fault>
     requires { at.0 ≤ length text.now }
     ensures { result ≡ parse_hex text.now at.0 }
 {
-    let from = at.0;
-    let end = text_bytes::skip_hex_digits(text, at);
-    let to = end.0;
-    match to - from {
-        6 => ColorRead::Value(long_color(text, at, 255), end),
-        8 => ColorRead::Value(long_color(text, at, hex_pair(text, Place(from + 6))), end),
-        3 => ColorRead::Value(short_color(text, at, 255), end),
-        4 => ColorRead::Value(short_color(text, at, short_hex(text, Place(from + 3))), end),
-        _ => ColorRead::Refused(stream::invalid_value(end)),
-    }
+    let next = text_bytes::skip_hex_digits(text, at);
+    let (red, green, blue, alpha) = match &text[at.0..next.0] {
+        [r, g, b] => (pair(*r, *r), pair(*g, *g), pair(*b, *b), 255),
+        [r, g, b, a] => (pair(*r, *r), pair(*g, *g), pair(*b, *b), pair(*a, *a)),
+        [r, s, g, h, b, c] => (pair(*r, *s), pair(*g, *h), pair(*b, *c), 255),
+        [r, s, g, h, b, c, a, d] => (pair(*r, *s), pair(*g, *h), pair(*b, *c), pair(*a, *d)),
+        _ => return Err(stream::invalid_value(next)),
+    };
+    let value = Color {
+        red,
+        green,
+        blue,
+        alpha,
+    };
+    Ok(Read { value, next })
 }
 
-// What a word begins: `rgb(`, `hsl(`, or a name alone.
-fn parse_word(text: &[u8], at: Place) -> ColorRead
-    requires text_len_bound { length text.now ≤ 4096 }
-    requires at_in_bounds { at.0 ≤ length text.now }
-    ensures { result ≡ parse_word text.now at.0 }
+// A channel of two hex digits.
+fn pair(high: u8, low: u8) -> u8
+    ensures { result ≡ from_hex high * 16 + from_hex low }
 {
-    let from = at.0;
-    let end = text_bytes::consume_ascii_ident(text, at);
-    let to = end.0;
-    if is_rgb(&text[from..to]) {
-        return parse_rgb(text, end);
-    }
-    if is_hsl(&text[from..to]) {
-        return parse_hsl(text, end);
-    }
-    named_color(&text[from..to], end)
+    from_hex(high) * 16 + from_hex(low)
 }
 
-pub fn is_rgb(word: &[u8]) -> bool
-    ensures { result ≡ is_rgb word.now }
-{
-    text_bytes::equals_lowered(word, b"rgb") | text_bytes::equals_lowered(word, b"rgba")
-}
-
-pub fn is_hsl(word: &[u8]) -> bool
-    ensures { result ≡ is_hsl word.now }
-{
-    text_bytes::equals_lowered(word, b"hsl") | text_bytes::equals_lowered(word, b"hsla")
-}
-
-// The colour that a word names; the word's end is where reading goes on.
-fn named_color(word: &[u8], end: Place) -> ColorRead
-    ensures { result ≡ named_color word.now end.0 }
-{
-    match names::from_str(word) {
-        Named::Keyword(c) => ColorRead::Value(
-            Color {
-                red: c.red,
-                green: c.green,
-                blue: c.blue,
-                alpha: 255,
-            },
-            end,
-        ),
-        Named::Transparent => ColorRead::Value(
-            Color {
-                red: 0,
-                green: 0,
-                blue: 0,
-                alpha: 0,
-            },
-            end,
-        ),
-        Named::Unknown => ColorRead::Refused(stream::invalid_value(end)),
-    }
-}
-
-// What follows `rgb` or `rgba`. The first number is no number of a list.
-fn parse_rgb(text: &[u8], at: Place) -> ColorRead
-    requires { length text.now ≤ 4096 }
-    ensures { result ≡ parse_rgb text.now at.0 }
-{
-    match stream::consume_byte(text, at, b'(') {
-        Consumed::Refused(e) => ColorRead::Refused(e),
-        Consumed::Next(p) => match numbers::parse_number(text, p) {
-            NumberRead::Refused(e) => ColorRead::Refused(e),
-            NumberRead::Value(n, q) => rgb_rest(text, q, n.value),
-        },
-    }
-}
-
-// What follows the first number: its `%` decides for green and blue too.
-fn rgb_rest(text: &[u8], at: Place, first: f64) -> ColorRead
-    requires { length text.now ≤ 4096 }
-    ensures { result ≡ rgb_rest text.now at.0 first }
-{
-    if text_bytes::is_curr_byte_eq(text, at, b'%') {
-        let i = at.0;
-        return rgb_marked(text, after_number(text, Place(i + 1)), first);
-    }
-    rgb_plain(text, after_number(text, at), first)
-}
-
-// The place after spaces and one optional comma.
-fn after_number(text: &[u8], at: Place) -> Place
-    ensures { result.0 ≡ after_number text.now at.0 }
-{
-    stream::parse_list_separator(text, text_bytes::skip_spaces(text, at))
-}
-
-// Red is divided and multiplied apart, so that it rounds as green and blue do.
-fn rgb_marked(text: &[u8], at: Place, first: f64) -> ColorRead
-    requires { length text.now ≤ 4096 }
-    ensures { result ≡ rgb_marked text.now at.0 first }
-{
-    let red = floats::channel((first / 100.0) * 255.0);
-    match numbers::parse_list_number_or_percent(text, at) {
-        NumberRead::Refused(e) => ColorRead::Refused(e),
-        NumberRead::Value(g, p) => {
-            let green = floats::channel(g.value * 255.0);
-            match numbers::parse_list_number_or_percent(text, p) {
-                NumberRead::Refused(e) => ColorRead::Refused(e),
-                NumberRead::Value(b, q) => {
-                    let blue = floats::channel(b.value * 255.0);
-                    parse_alpha(
-                        text,
-                        q,
-                        Color {
-                            red,
-                            green,
-                            blue,
-                            alpha: 255,
-                        },
-                    )
-                }
-            }
-        }
-    }
-}
-
-fn rgb_plain(text: &[u8], at: Place, first: f64) -> ColorRead
-    requires { length text.now ≤ 4096 }
-    ensures { result ≡ rgb_plain text.now at.0 first }
-{
-    let red = floats::channel(first);
-    match numbers::parse_list_number(text, at) {
-        NumberRead::Refused(e) => ColorRead::Refused(e),
-        NumberRead::Value(g, p) => {
-            let green = floats::channel(g.value);
-            match numbers::parse_list_number(text, p) {
-                NumberRead::Refused(e) => ColorRead::Refused(e),
-                NumberRead::Value(b, q) => {
-                    let blue = floats::channel(b.value);
-                    parse_alpha(
-                        text,
-                        q,
-                        Color {
-                            red,
-                            green,
-                            blue,
-                            alpha: 255,
-                        },
-                    )
-                }
-            }
-        }
-    }
-}
-
-// The fourth number, unless the bracket stands there, and the bracket.
-fn parse_alpha(text: &[u8], at: Place, color: Color) -> ColorRead
-    requires { length text.now ≤ 4096 }
-    ensures { result ≡ parse_alpha text.now at.0 color }
-{
-    let start = text_bytes::skip_spaces(text, at);
-    if text_bytes::is_curr_byte_eq(text, start, b')') {
-        return close_bracket(text, start, color);
-    }
-    match numbers::parse_list_number(text, start) {
-        NumberRead::Refused(e) => ColorRead::Refused(e),
-        NumberRead::Value(n, p) => {
-            let alpha = floats::channel(n.value * 255.0);
-            close_bracket(
-                text,
-                p,
-                Color {
-                    red: color.red,
-                    green: color.green,
-                    blue: color.blue,
-                    alpha,
-                },
-            )
-        }
-    }
-}
-
-fn close_bracket(text: &[u8], at: Place, color: Color) -> ColorRead
-    ensures { result ≡ close_bracket text.now at.0 color }
-{
-    let next = text_bytes::skip_spaces(text, at);
-    match stream::consume_byte(text, next, b')') {
-        Consumed::Refused(e) => ColorRead::Refused(e),
-        Consumed::Next(p) => ColorRead::Value(color, p),
-    }
-}
-
-// What follows `hsl` or `hsla`.
-fn parse_hsl(text: &[u8], at: Place) -> ColorRead
-    requires { length text.now ≤ 4096 }
-    ensures { result ≡ parse_hsl text.now at.0 }
-{
-    match stream::consume_byte(text, at, b'(') {
-        Consumed::Refused(e) => ColorRead::Refused(e),
-        Consumed::Next(p) => match numbers::parse_list_number(text, p) {
-            NumberRead::Refused(e) => ColorRead::Refused(e),
-            NumberRead::Value(h, q) => hsl_rest(text, q, h.value),
-        },
-    }
-}
-
-// What follows the hue.
-fn hsl_rest(text: &[u8], at: Place, hue: f64) -> ColorRead
-    requires { length text.now ≤ 4096 }
-    ensures { result ≡ hsl_rest text.now at.0 hue }
-{
-    match numbers::parse_list_number_or_percent(text, at) {
-        NumberRead::Refused(e) => ColorRead::Refused(e),
-        NumberRead::Value(s, p) => match numbers::parse_list_number_or_percent(text, p) {
-            NumberRead::Refused(e) => ColorRead::Refused(e),
-            NumberRead::Value(l, q) => parse_alpha(text, q, hsl_color(hue, s.value, l.value)),
-        },
-    }
-}
-
-// The value of a hex digit, 0 for another byte.
+// The value of a hex digit. None but digits come, and 0 for another byte spares each of fourteen calls an Option.
+#[tactic(auto, unfolding(crate::specs::Hex::from_hex, text_bytes::specs::Bytes::within))]
 fn from_hex(c: u8) -> u8
     ensures value { result ≡ from_hex c }
     ensures upper_bound { result ≤ 15 }
@@ -326,50 +109,146 @@ fn from_hex(c: u8) -> u8
     }
 }
 
-// A channel of one digit, doubled.
-fn short_hex(text: &[u8], at: Place) -> u8
-    ensures { result ≡ short_hex text.now at.0 }
+// One test each: a function of the two words would be as long as these.
+#[tactic(auto, unfolding(crate::specs::Color::is_rgb))]
+pub fn is_rgb(word: &[u8]) -> bool
+    ensures { result ≡ is_rgb word.now }
 {
-    let h = from_hex(text_bytes::byte_at(text, at));
-    h * 16 + h
+    text_bytes::equals_lowered(word, b"rgb") || text_bytes::equals_lowered(word, b"rgba")
 }
 
-// A channel of two digits.
-fn hex_pair(text: &[u8], at: Place) -> u8
-    requires { at.0 ≤ length text.now }
-    ensures { result ≡ hex_pair text.now at.0 }
+#[tactic(auto, unfolding(crate::specs::Color::is_hsl))]
+pub fn is_hsl(word: &[u8]) -> bool
+    ensures { result ≡ is_hsl word.now }
 {
-    let i = at.0;
-    from_hex(text_bytes::byte_at(text, at)) * 16 + from_hex(text_bytes::byte_at(text, Place(i + 1)))
+    text_bytes::equals_lowered(word, b"hsl") || text_bytes::equals_lowered(word, b"hsla")
 }
 
-fn short_color(text: &[u8], at: Place, alpha: u8) -> Color
-    requires { at.0 ≤ length text.now }
-    ensures { result ≡ short_color text.now at.0 alpha }
-{
-    let i = at.0;
-    Color {
-        red: short_hex(text, at),
-        green: short_hex(text, Place(i + 1)),
-        blue: short_hex(text, Place(i + 2)),
-        alpha,
+impl From<Named> for Color {
+    fn from(named: Named) -> Color
+        ensures { result ≡ color_of named }
+    {
+        let (rgb, alpha) = match named {
+            Named::Keyword(rgb) => (rgb, 255),
+            Named::Transparent => (
+                Rgb {
+                    red: 0,
+                    green: 0,
+                    blue: 0,
+                },
+                0,
+            ),
+        };
+        Color {
+            red: rgb.red,
+            green: rgb.green,
+            blue: rgb.blue,
+            alpha,
+        }
     }
 }
 
-fn long_color(text: &[u8], at: Place, alpha: u8) -> Color
-    requires { at.0 + 4 ≤ length text.now }
-    ensures { result ≡ long_color text.now at.0 alpha }
-{
-    let i = at.0;
-    Color {
-        red: hex_pair(text, at),
-        green: hex_pair(text, Place(i + 2)),
-        blue: hex_pair(text, Place(i + 4)),
-        alpha,
+// As the keywords have it, without its alpha.
+impl From<Color> for Rgb {
+    fn from(color: Color) -> Rgb
+        ensures { result ≡ rgb_of color }
+    {
+        let Color {
+            red,
+            green,
+            blue,
+            ..
+        } = color;
+        Rgb { red, green, blue }
     }
+}
+
+// The colour that a word names; the word's end is where reading goes on.
+#[tactic(auto, unfolding(crate::specs::Color::named_color))]
+fn named_color(word: &[u8], end: Place) -> Result<Read<Color>, Fault>
+    ensures { result ≡ named_color word.now end.0 }
+{
+    let named = names::from_str(word).ok_or(stream::invalid_value(end))?;
+    Ok(Read {
+        value: Color::from(named),
+        next: end,
+    })
+}
+
+// What follows `rgb` or `rgba`. The first number is no number of a list, and its `%` decides for green and blue too.
+#[tactic(auto, unfolding(crate::specs::Color::parse_rgb, crate::specs::Color::rgb_rest, crate::specs::Color::rgb_marked, crate::specs::Color::rgb_plain, crate::specs::Color::channel), using(text_bytes::proofs::Wording::curr_ends))]
+fn parse_rgb(text: &[u8], at: Place) -> Result<Read<Color>, Fault>
+    ensures { result ≡ parse_rgb text.now at.0 }
+{
+    let first = stream::consume_byte(text, at, b'(')?;
+    let number = numbers::parse_number(text, first)?;
+    let marked = text_bytes::is_curr_byte_eq(text, number.next, b'%');
+    // divided and multiplied apart, so that it rounds as green and blue do
+    let (red, end) = if marked {
+        (
+            (number.value.value / 100.0) * 255.0,
+            Place(number.next.0 + 1),
+        )
+    } else {
+        (number.value.value, number.next)
+    };
+    let green = channel(text, numbers::after_item(text, end), marked)?;
+    let blue = channel(text, green.next, marked)?;
+    let color = Color {
+        red: floats::channel(red),
+        green: green.value,
+        blue: blue.value,
+        alpha: 255,
+    };
+    parse_alpha(text, blue.next, color)
+}
+
+// Green or blue: a number or percent times 255 after a marked red, else a plain number.
+#[tactic(auto, unfolding(crate::specs::Color::channel))]
+fn channel(text: &[u8], at: Place, marked: bool) -> Result<Read<u8>, Fault>
+    ensures { result ≡ channel text.now at.0 marked }
+{
+    if marked {
+        let read = numbers::parse_list_number_or_percent(text, at)?;
+        return Ok(read.map(|n| floats::channel(n.value * 255.0)));
+    }
+    let read = numbers::parse_list_number(text, at)?;
+    Ok(read.map(|n| floats::channel(n.value)))
+}
+
+// The fourth number, unless the bracket stands there, and the bracket.
+#[tactic(auto, unfolding(crate::specs::Color::parse_alpha, crate::specs::Color::close_bracket))]
+fn parse_alpha(text: &[u8], at: Place, color: Color) -> Result<Read<Color>, Fault>
+    ensures { result ≡ parse_alpha text.now at.0 color }
+{
+    let start = text_bytes::skip_spaces(text, at);
+    if text_bytes::is_curr_byte_eq(text, start, b')') {
+        return stream::close(text, start, b')', color);
+    }
+    let read = numbers::parse_list_number(text, start)?;
+    let alpha = floats::channel(read.value.value * 255.0);
+    stream::close(text, read.next, b')', Color { alpha, ..color })
+}
+
+// What follows `hsl` or `hsla`.
+#[tactic(auto, unfolding(crate::specs::Color::parse_hsl, crate::specs::Color::hsl_rest))]
+fn parse_hsl(text: &[u8], at: Place) -> Result<Read<Color>, Fault>
+    ensures { result ≡ parse_hsl text.now at.0 }
+{
+    let first = stream::consume_byte(text, at, b'(')?;
+    let hue = numbers::parse_list_number(text, first)?;
+    let saturation = numbers::parse_list_number_or_percent(text, hue.next)?;
+    let lightness = numbers::parse_list_number_or_percent(text, saturation.next)?;
+    let color = hsl_color(
+        hue.value.value,
+        saturation.value.value,
+        lightness.value.value,
+    );
+    parse_alpha(text, lightness.next, color)
 }
 
 // Hue, saturation and lightness as they were read, rounded to `f32`s.
+#[tactic(auto, unfolding(crate::specs::Hsl::hsl_color))]
 pub fn hsl_color(h: f64, s: f64, l: f64) -> Color
     ensures { result ≡ hsl_color h s l }
 {
@@ -381,6 +260,7 @@ pub fn hsl_color(h: f64, s: f64, l: f64) -> Color
 }
 
 // `hue` is in 0..6, `saturation` and `lightness` are in 0..=1.
+#[tactic(auto, unfolding(crate::specs::Hsl::hsl_to_rgb))]
 fn hsl_to_rgb(hue: f32, saturation: f32, lightness: f32) -> Color
     ensures { result ≡ hsl_to_rgb hue saturation lightness }
 {
@@ -401,6 +281,7 @@ fn hsl_to_rgb(hue: f32, saturation: f32, lightness: f32) -> Color
     }
 }
 
+#[tactic(auto, unfolding(crate::specs::Hsl::hue_to_rgb))]
 fn hue_to_rgb(t1: f32, t2: f32, hue: f32) -> f32
     ensures { result ≡ hue_to_rgb t1 t2 hue }
 {

@@ -4,14 +4,15 @@
 ghost use Rattle.std.specs.Prelude.{◌≡◌};
 ghost use Rattle.counts.specs.Counts.{set_back_record};
 
-use set_back::SetBack;
+use stream::Refusal;
 use text_bytes::Place;
 
-pub fn write_set_back(out: &mut [u64; 24], answer: SetBack)
+#[tactic(auto, using(crate::proofs::Rows::count_refused, crate::proofs::Rows::count_written))]
+pub fn write_set_back(out: &mut [u64; 24], answer: Result<usize, Refusal>)
     ensures { out.new ≡ set_back_record answer }
 {
     match answer {
-        SetBack::Refused(e) => records::refused(out, e),
-        SetBack::Written(n) => records::written::one(out, 0, Place(0), n as u64),
+        Err(e) => records::refused(out, e),
+        Ok(n) => records::written::found(out, Place(0), [n as u64]),
     }
 }

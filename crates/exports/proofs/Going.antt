@@ -2,15 +2,29 @@
 use Prim.Native.Nat.{ℕ, suc, ◌+◌, ◌-◌, ◌*◌, ◌/◌, ◌≤◌, ◌<◌}
 use mathlib.Core.Bool.{Bool, true, false, cond}
 use mathlib.Core.List.{List, [], ◌∷◌, ◌++◌, append-nil, append_assoc}
-use mathlib.Core.Path.{◌≡◌, refl, sym, ◌∙◌}
+use mathlib.Core.Path.{◌≡◌, refl, sym, ap, ◌∙◌}
 use native.Mathlib.Nat.{div-add-mod'}
 use native.Mathlib.Omega.{arith}
 use borrow.Author.Tests.{eq-eqb, ne_eqb}
 use lib.Dec.{eqb}
-use lib.ListN.{length, take, drop, get_or, length-append}
-use lib.Seq.{paste, take_at, drop-append-add, drop-drop, take_all}
+use lib.ListN.{length, take, drop, get_or, length-append, get_or-append}
+use lib.Seq.{paste, take_at, drop-append-add, drop-drop, take_all, length-paste, length_paste_head, length-take-le, get_or-append-add, get_or-take}
+use borrow.Rule.Slice.PartMut.{put_mid}
+use Rattle.std.proofs.lemmas.Slice.{put_mid-paste}
 use Rattle.records.specs.Many.{up_to, fitting, flat, filled, last_place, told_of}
-use Rattle.records.proofs.Stores.{record_same, record_get}
+
+-- o is xs with the record r at k
+module _ {o : List ℕ} (xs : List ℕ) (k : ℕ) (r : List ℕ) (w : o ≡ paste xs k r 24) (l : k + 24 ≤ length xs) (m : 24 ≤ length r) where
+  record_same : length o ≡ length xs
+  record_same = rw w (length-paste xs k r 24 l m)
+
+  -- one entry of it read
+  record_get : (j : ℕ) → j < 24 → get_or o (k + j) 0 ≡ get_or r j 0
+  record_get j h =
+      let e : length (take k xs) ≡ k = length-take-le k xs (omega arith) in
+      let f : k + j < length (take k xs ++ take 24 r) = omega (arith, length_paste_head xs k r 24 (omega arith) m) in
+      let g : get_or (take k xs ++ take 24 r) (k + j) 0 ≡ get_or (take 24 r) j 0 = rw e at (get_or-append-add (take k xs) (take 24 r) j 0) in
+      rw (w, get_or-append (take k xs ++ take 24 r) (drop (k + 24) xs) 0 (k + j) f, g) (get_or-take 24 r j 0 h)
 
 -- one record more
 abbrev behind : List (List ℕ) → List ℕ → List (List ℕ)
@@ -46,12 +60,13 @@ going_start step i o =
 
 module _ {step : ℕ → List ℕ} {i₀ : ℕ} {o₀ : List ℕ} {n i : ℕ} {o : List ℕ} (h : Going step i₀ o₀ n i o) where
   -- no room is left
-  pub going_full : length o₀ / 24 ≤ n → (o ≡ filled (fitting step o₀ i₀) o₀) × (n ∷ i ∷ [] ≡ told_of i₀ (fitting step o₀ i₀))
+  pub going_full : length o₀ / 24 ≤ n → (o ≡ filled (fitting step o₀ i₀) o₀) × (length o₀ / 24 ∷ i ∷ [] ≡ told_of i₀ (fitting step o₀ i₀))
   unfolding up_to
   going_full l =
       let z : length o₀ / 24 - n ≡ 0 = omega arith in
+      let m : length o₀ / 24 ≡ n = omega (arith, h.some) in
       let e : fitting step o₀ i₀ ≡ h.records = h.all ∙ rw z (append-nil h.records) in
-      (rw e h.list, rw (e, h.count, h.on))
+      (rw e h.list, rw (e, h.count, h.on, m) refl)
 
   -- p is the entries with the record of the next step behind the n records
   module _ {p : List ℕ} (w : p ≡ paste o (n * 24) (step i) 24) (l : n < length o₀ / 24) (k : length (step i) ≡ 24) where
@@ -108,6 +123,6 @@ module _ {step : ℕ → List ℕ} {i₀ : ℕ} {o₀ : List ℕ} {n i : ℕ} {o
         next_all false (ne_eqb (get_or (step i) 7 0) 0 (λ z. f (next_entry 7 (omega arith) ∙ z))) ∙ append-nil (behind h.records (step i)) in
         (rw e next_list, rw (next_entry 8 (omega arith), e, next_count, last_behind i₀ h.records (step i)))
 
--- the record of a step is written, by what two calls answered: x the step, p the entries
-pub written_at : {A : Type 0} (f : A → List ℕ) {p : List ℕ} (o : List ℕ) (k : ℕ) {x y : A} → p ≡ paste o k (f x) 24 → x ≡ y → p ≡ paste o k (f y) 24
-written_at f o k w e = rw (← e) w
+-- the part that a row takes, written: r is the row
+pub row_put : (o : List ℕ) (n : ℕ) {p r : List ℕ} → p ≡ r → length p ≡ 24 → put_mid (n * 24) (n * 24 + 24 - n * 24) o p ≡ paste o (n * 24) r 24
+row_put o n {p} {r} e l = put_mid-paste (n * 24) (n * 24 + 24 - n * 24) o p r 24 e (omega arith) (omega (arith, ap (λ (x : List ℕ). length x) e))

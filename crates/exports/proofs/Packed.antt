@@ -1,32 +1,27 @@
 -- A paint from its answer's number.
-use Prim.Native.Nat.{ℕ, ◌-◌}
+use Prim.Native.Nat.{ℕ}
 use mathlib.Core.List.{List}
-use mathlib.Core.Path.{◌≡◌, refl, ap, ◌∙◌}
-use lib.ListN.{length, take, drop}
-use Rattle.text_bytes.proofs.Parts.{rest_part}
+use mathlib.Core.Path.{◌≡◌, refl, sym, ap, ◌∙◌}
+use Rattle.std.specs.Prelude.{Result, Ok, Err}
+use Rattle.stream.specs.declared.Refusal.{Refusal}
 use Rattle.paint.specs.Answers.{from_str}
 use Rattle.paint.specs.declared.Paint.{Paint}
-use Rattle.paint.specs.declared.PaintAnswer.{PaintAnswer}
-use Rattle.paint.specs.declared.PaintAnswer.TheVariants as A
 use Rattle.packed.specs.Numbers.{decoded_paint, paint_answer_number}
 use Rattle.packed.proofs.Decoding.{paint_read_back}
 use Rattle.records.specs.Records.{paint_record, record_for}
 
-module _ (s : List ℕ) (n : ℕ) (q : n ≡ paint_answer_number (from_str s)) where
+module _ (s : List ℕ) where
   -- a number that is 0: the record is filled
-  pub paint_none : (o : List ℕ) {p : List ℕ} → p ≡ record_for n (paint_record (from_str s)) o → n ≡ 0 → p ≡ paint_record (from_str s)
-  paint_none o e h = rw h at e
+  pub paint_none : (o : List ℕ) → paint_answer_number (from_str s) ≡ 0
+      → (paint_answer_number (from_str s) ≡ 0) × (record_for (paint_answer_number (from_str s)) (paint_record (from_str s)) o ≡ paint_record (from_str s))
+  paint_none o h = (h, rw h refl)
 
   -- another: the value comes back from it
-  pub paint_some : {p : List ℕ} {v : Paint} → (n ≡ 0 → ⊥) → v ≡ decoded_paint n → p ≡ paint_record (A.Value v) → p ≡ paint_record (from_str s)
+  pub paint_some : (paint_answer_number (from_str s) ≡ 0 → ⊥)
+      → (paint_answer_number (from_str s) ≡ paint_answer_number (from_str s)) × (paint_record (Ok (decoded_paint (paint_answer_number (from_str s)))) ≡ paint_record (from_str s))
   unfolding paint_answer_number
-  paint_some {p} {v} h d e = go (from_str s) refl
+  paint_some h = (refl, go (from_str s) refl)
     where
-      go : (a : PaintAnswer) → from_str s ≡ a → p ≡ paint_record (from_str s)
-      go (A.Value x) k = rw (k, ← paint_read_back s x k, ← q, ← d) e
-      go (A.Refused x) k = absurd (h (q ∙ ap paint_answer_number k))
-
--- `&text[0..]` is the text
-pub paint_whole : (s : List ℕ) (n : ℕ) (o : List ℕ) {p : List ℕ} → n ≡ paint_answer_number (from_str (take (length s - 0) (drop 0 s)))
-    → p ≡ record_for n (paint_record (from_str (take (length s - 0) (drop 0 s)))) o → (n ≡ paint_answer_number (from_str s)) × (p ≡ record_for n (paint_record (from_str s)) o)
-paint_whole s n o q e = (rw rest_part at q, rw rest_part at e)
+      go : (a : Result Paint Refusal) → from_str s ≡ a → paint_record (Ok (decoded_paint (paint_answer_number (from_str s)))) ≡ paint_record (from_str s)
+      go (Ok x) k = ap (λ (y : Paint). paint_record (Ok y)) (paint_read_back s x k) ∙ sym (ap paint_record k)
+      go (Err x) k = absurd (h (ap paint_answer_number k))

@@ -24,10 +24,8 @@ one_step step i o e l =
     let g : length (step i) ≡ length o = l ∙ sym e in
     rw (q, f, g, drop-length o) (append-nil (step i))
 
-pub filter_single : (s : List ℕ) (i : ℕ) (o r : List ℕ) → r ≡ filled (fitting (filter_at s) o i) o → length o ≡ 24 → r ≡ filter_at s i
-filter_single s i o r q e = q ∙ one_step (filter_at s) i o e (filter_entries (next_filter s i))
+pub filter_single : (s : List ℕ) (i : ℕ) (o : List ℕ) → length o ≡ 24 → filled (fitting (filter_at s) o i) o ≡ filter_at s i
+filter_single s i o e = one_step (filter_at s) i o e (filter_entries (next_filter s i))
 
-pub length_single : (s : List ℕ) (i : ℕ) (o r : List ℕ) → r ≡ filled (fitting (length_at s) o i) o → length o ≡ 24 → r ≡ length_at s i
-length_single s i o r q e = q ∙ one_step (length_at s) i o e (length_entries (next_length s i))
-
-pub ruleset single = (filter_single, length_single)
+pub length_single : (s : List ℕ) (i : ℕ) (o : List ℕ) → length o ≡ 24 → filled (fitting (length_at s) o i) o ≡ length_at s i
+length_single s i o e = one_step (length_at s) i o e (length_entries (next_length s i))

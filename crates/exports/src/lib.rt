@@ -8,7 +8,7 @@ ghost use Rattle.counts.specs.Counts.{set_back_record};
 ghost use Rattle.packed.specs.Numbers.{color_answer_number, paint_answer_number};
 ghost use Rattle.angle.specs.Angles as angles;
 ghost use Rattle.color.specs.Answer as colors;
-ghost use Rattle.color.specs.Color.{rgba};
+ghost use Rattle.color.specs.Hex.{rgba};
 ghost use Rattle.filter_functions.specs.Filters.{next_filter};
 ghost use Rattle.inherit.specs.Rule.{inherited_of};
 ghost use Rattle.funciri.specs.Answers.{iri_from_str, func_iri_from_str};
@@ -22,10 +22,11 @@ ghost use Rattle.strict.specs.Answer.{strict_from_str};
 ghost use Rattle.strict.specs.Asked.{asked_of};
 
 use color::Color;
-use paint::PaintAnswer;
 use text_bytes::Place;
 
 mod many;
+
+use many::{Filters, Lengths};
 
 #[unsafe(no_mangle)]
 pub extern "C" fn homeludaf_color(text: &[u8], answer: &mut [u64; 24])
@@ -68,11 +69,12 @@ pub extern "C" fn homeludaf_length(text: &[u8], answer: &mut [u64; 24])
 
 // One step of a list of lengths, from a list place: the walk with room for one record, so that the reader has one caller, and is compiled into it.
 #[unsafe(no_mangle)]
+#[tactic(auto, using(crate::proofs::Single::length_single))]
 pub extern "C" fn homeludaf_length_next(text: &[u8], place: usize, answer: &mut [u64; 24])
     ensures { answer.new ≡ length_step_record (lengths.next_length text.now place) }
 {
     let mut t = [0; 2];
-    many::length_steps(text, Place(place), answer, &mut t);
+    many::write_steps(&Lengths, text, Place(place), answer, &mut t);
 }
 
 // An angle, with its degrees.
@@ -99,6 +101,7 @@ pub extern "C" fn homeludaf_func_iri(text: &[u8], answer: &mut [u64; 24])
 
 // The value's number, taken apart: so the reader has one caller, and is compiled into it.
 #[unsafe(no_mangle)]
+#[tactic(auto, using(crate::proofs::Packed::paint_none, crate::proofs::Packed::paint_some))]
 pub extern "C" fn homeludaf_paint(text: &[u8], answer: &mut [u64; 24])
     ensures { answer.new ≡ paint_record (paints.from_str text.now) }
 {
@@ -106,11 +109,12 @@ pub extern "C" fn homeludaf_paint(text: &[u8], answer: &mut [u64; 24])
     if n == 0 {
         return;
     }
-    records::write_paint(answer, PaintAnswer::Value(packed::number_paint(n)));
+    records::write_paint(answer, Ok(packed::number_paint(n)));
 }
 
 // A paint as one number, likewise. The slice is taken anew: handed on whole it would be copied through memory.
 #[unsafe(no_mangle)]
+#[tactic(auto, using(fast_numbers::proofs::Told::all_text))]
 pub extern "C" fn homeludaf_paint_packed(text: &[u8], answer: &mut [u64; 24]) -> u64
     ensures value { result ≡ paint_answer_number (paints.from_str text.now) }
     ensures answer_after { answer.new ≡ record_for result (paint_record (paints.from_str text.now)) answer.old }
@@ -128,11 +132,12 @@ pub extern "C" fn homeludaf_inherited(own: &[u8], parent: &[u8], answer: &mut [u
 
 // One step of a list of filter values, from a list place: likewise.
 #[unsafe(no_mangle)]
+#[tactic(auto, using(crate::proofs::Single::filter_single))]
 pub extern "C" fn homeludaf_filter_next(text: &[u8], place: usize, answer: &mut [u64; 24])
     ensures { answer.new ≡ filter_record (next_filter text.now place) }
 {
     let mut t = [0; 2];
-    many::filter_steps(text, Place(place), answer, &mut t);
+    many::write_steps(&Filters, text, Place(place), answer, &mut t);
 }
 
 // The steps of a list of filter values from a list place on: whole records, one after the other, up to and with the first that is no value, as many as fit.
@@ -147,7 +152,7 @@ pub extern "C" fn homeludaf_filter_all(
     ensures answers_after { answers.new ≡ filled (fitting (filter_at text.now) answers.old place) answers.old }
     ensures told_after { told.new ≡ told_of place (fitting (filter_at text.now) answers.old place) }
 {
-    many::filter_steps(text, Place(place), answers, told);
+    many::write_steps(&Filters, text, Place(place), answers, told);
 }
 
 // The same of a list of lengths.
@@ -161,7 +166,7 @@ pub extern "C" fn homeludaf_length_all(
     ensures answers_after { answers.new ≡ filled (fitting (length_at text.now) answers.old place) answers.old }
     ensures told_after { told.new ≡ told_of place (fitting (length_at text.now) answers.old place) }
 {
-    many::length_steps(text, Place(place), answers, told);
+    many::write_steps(&Lengths, text, Place(place), answers, told);
 }
 
 // A colour as hex digits, written into lent bytes.

@@ -1,52 +1,70 @@
 -- An angle whose number is told is what the definitions come to.
-use Prim.Native.Nat.{ℕ, ◌<◌}
-use mathlib.Core.List.{List, []}
-use mathlib.Core.Path.{◌≡◌, sym, ◌∙◌}
+use Prim.Native.Nat.{ℕ, ◌≤◌}
+use mathlib.Core.Bool.{true}
+use mathlib.Core.List.{List}
+use mathlib.Core.Path.{◌≡◌, refl}
 use native.Mathlib.Omega.{arith}
-use borrow.Author.Tests.{le-ltb}
-use lib.ListN.{length, drop, drop_of_length-le}
-use Rattle.stream.specs.Refusals.{admit_text}
+use borrow.Author.Tests.{le-ltb, lt-ltb, eqb-true, eqb-false}
+use lib.Dec.{eqb, ltb}
+use lib.ListN.{length, drop_of_length-le}
+use Rattle.std.specs.Prelude.{Result, Ok, Err, Option, Some, None, if◌then◌else◌}
+use Rattle.std.specs.Result.{result_ok}
 use Rattle.text_bytes.specs.Words.{starts_with}
-use Rattle.stream.specs.declared.Admission.{Admission}
-use Rattle.stream.specs.declared.Admission.TheVariants.{Admitted, Refused}
-use Rattle.text_bytes.specs.declared.Place.{Place}
+use Rattle.text_bytes.proofs.Ranges.{either}
+use Rattle.stream.specs.Faults.{unexpected_data}
+use Rattle.stream.specs.Refusals.{at_edge, admit_text}
+use Rattle.stream.specs.declared.Fault.{Fault}
+use Rattle.stream.specs.declared.Read.{Read}
 use Rattle.stream.specs.declared.Refusal.{Refusal}
+use Rattle.numbers.specs.Moves.{Number}
 use Rattle.numbers.specs.Number.{parse_number}
-use Rattle.angle.specs.Angles.{parse_unit, parse_angle, parse_whole, from_str}
-use Rattle.angle.specs.declared.AngleAnswer.TheVariants as O
+use Rattle.numbers.proofs.Values.{number_known}
+use Rattle.numbers.specs.declared.Written.{Written}
+use Rattle.angle.specs.Angles.{or_degrees, with_unit, parse_unit, parse_angle, parse_whole, from_str}
+use Rattle.angle.specs.declared.Angle.{Angle}
 use Rattle.angle.specs.declared.AngleUnit.{AngleUnit}
-use Rattle.angle.specs.declared.AngleUnit.TheVariants as U
-use Rattle.angle.specs.declared.AngleUnitRead.{AngleUnitRead}
-use Rattle.angle.specs.declared.AngleUnitRead.TheVariants as W
+use Rattle.fast_angle.specs.Units.{ending, last_unit, angled}
+use Rattle.fast_angle.specs.Units as E
 use Rattle.fast_numbers.specs.Told.{told_number}
-use Rattle.fast_numbers.specs.declared.ToldNumber.{ToldNumber}
-use Rattle.fast_numbers.proofs.Told.{Read, told_read}
+use Rattle.fast_numbers.proofs.Told.{told_read, told_unread}
 
--- a is the text's admission, r its number
-module _ (s : List ℕ) {a : Admission} {r : ToldNumber} (p : a ≡ admit_text s) (e : a ≡ Admitted) (q : r ≡ told_number (parse_number s 0)) (h : 0 < r.end.0) where
-  read : Read s 0 r
-  read = told_read s 0 r q h
+module _ (s : List ℕ) where
+  pub none_told : told_number (parse_number s 0) ≡ None → result_ok (parse_whole s) ≡ None
+  unfolding parse_whole parse_angle
+  none_told e = rw (told_unread s 0 e).is refl
 
-  admitted : admit_text s ≡ Admitted
-  admitted = sym p ∙ e
+  module _ (n : Number) (e : told_number (parse_number s 0) ≡ Some n) where
+    unmarked : length s ≤ n.end.0 → parse_unit s n.end.0 ≡ None
+    unfolding parse_unit starts_with
+    unmarked l = simp (drop_of_length-le s l)
 
-  unmarked : (i : ℕ) → i ≡ length s → parse_unit s i ≡ W.Missing
-  unfolding parse_unit starts_with
-  unmarked i l =
-      let d : drop i s ≡ [] = drop_of_length-le s {i = i} (omega arith) in
-      simp d
+    -- a number is an angle with the unit after it that ends the text
+    pub angle_told : (told_number (parse_number s 0) ≡ Some n) × (result_ok (parse_whole s) ≡ angled s n)
+    unfolding parse_whole parse_angle last_unit angled
+    angle_told =
+        let i : n.end.0 ≤ length s = (number_known s 0 _ (told_read s 0 n e)).past.inside in (
+          e,
+          either (eqb n.end.0 (length s))
+              (λ h. let l : n.end.0 ≡ length s = eqb-true n.end.0 (length s) h in simp (told_read s 0 n e, h, unmarked (omega arith), le-ltb n.end.0 (length s) (omega arith)))
+              (λ h. simp (told_read s 0 n e, h) (go (lt-ltb n.end.0 (length s) (omega (arith, eqb-false n.end.0 (length s) h))) (parse_unit s n.end.0))),
+        )
+      where
+        go : ltb n.end.0 (length s) ≡ true → (u : Option (Read AngleUnit))
+            → result_ok (let r = with_unit n (or_degrees n.end u) in if ltb r.next.0 (length s) then Err (unexpected_data s r.next.0) else Ok r.value)
+            ≡ E.with_unit n (ending s u)
+        go h None = simp h
+        go h (Some u) = either (ltb u.next.0 (length s)) (λ h. simp h) (λ h. simp h)
 
-  pub degrees_told : r.end.0 ≡ length s → O.Value (record { number = r.value; unit = U.Degrees }) (record { value = r.value; whole = r.whole; end = r.end }) ≡ from_str s
-  unfolding from_str parse_whole parse_angle
-  degrees_told l = sym (simp (admitted, read.is, unmarked r.end.0 l, le-ltb r.end.0 (length s) (omega arith)))
-
-  pub unit_told : {w : AngleUnitRead} {u : AngleUnit} {n : Place} → w ≡ parse_unit s r.end.0 → w ≡ W.Found u n → n.0 ≡ length s → O.Value (record { number = r.value; unit = u }) (record { value = r.value; whole = r.whole; end = r.end }) ≡ from_str s
-  unfolding from_str parse_whole parse_angle
-  unit_told {n} f g l = sym (simp (admitted, read.is, sym f ∙ g, le-ltb n.0 (length s) (omega arith)))
-
--- a text that may not be read
-pub refused_told : (s : List ℕ) {a : Admission} {f : Refusal} → a ≡ admit_text s → a ≡ Refused f → O.Refused f ≡ from_str s
+pub refused : (s : List ℕ) (e : Refusal) → admit_text s ≡ Err e → (admit_text s ≡ Err e) × (from_str s ≡ Err e)
 unfolding from_str
-refused_told s p e = sym (simp (sym p ∙ e))
+refused s e h = (h, simp h)
 
-pub ruleset told = (degrees_told, unit_told, refused_told)
+-- what is told of an admitted text is what is read of it
+pub admitted_told : (s : List ℕ) (a : Written Angle) → admit_text s ≡ Ok tt → result_ok (parse_whole s) ≡ Some a
+    → (result_ok (parse_whole s) ≡ Some a) × (from_str s ≡ Ok a)
+unfolding from_str
+admitted_told s a h e = (e, simp h (go (parse_whole s) e))
+  where
+    go : (x : Result (Written Angle) Fault) → result_ok x ≡ Some a → at_edge s x ≡ Ok a
+    go (Ok b) q = cc
+    go (Err f) q = absurd (let z : ◌≡◌ {A = ℕ} 0 1 = cc in omega arith)

@@ -2,40 +2,59 @@
 #![tactic(auto)]
 
 ghost use Rattle.std.specs.Prelude.{◌≡◌};
-ghost use Rattle.angle.specs.Angles.{from_str};
+ghost use Rattle.std.specs.Result.{result_ok};
+ghost use Rattle.angle.specs.Angles.{parse_whole, from_str};
+ghost use Rattle.fast_angle.specs.Units.{last_unit, angled};
 
-use angle::{Angle, AngleAnswer, AngleUnit, AngleUnitRead};
-use numbers::Number;
-use stream::Admission;
+use angle::{Angle, AngleUnit};
+use numbers::{Number, Written};
+use stream::Refusal;
 use text_bytes::Place;
 
-pub fn from_str(text: &[u8]) -> AngleAnswer
+#[tactic(auto, using(crate::proofs::Told::admitted_told, crate::proofs::Told::refused))]
+pub fn from_str(text: &[u8]) -> Result<Written<Angle>, Refusal>
     ensures { result ≡ from_str text.now }
 {
-    match stream::admit_text(text) {
-        Admission::Refused(refusal) => AngleAnswer::Refused(refusal),
-        Admission::Admitted => {
-            let n = fast_numbers::number(text, Place(0));
-            let end = n.end;
-            let e = end.0;
-            let number = n.value;
-            let written = Number {
-                value: number,
-                whole: n.whole,
-                end,
-            };
-            if 0 < e {
-                if e == text.len() {
-                    let unit = AngleUnit::Degrees;
-                    return AngleAnswer::Value(Angle { number, unit }, written);
-                }
-                if let AngleUnitRead::Found(unit, next) = angle::parse_unit(text, end) {
-                    if next.0 == text.len() {
-                        return AngleAnswer::Value(Angle { number, unit }, written);
-                    }
-                }
-            }
-            angle::from_str(text)
-        }
+    stream::admit_text(text)?;
+    match whole(text) {
+        Some(angle) => Ok(angle),
+        None => angle::from_str(text),
     }
+}
+
+// An angle, and nothing after it.
+#[tactic(auto, using(crate::proofs::Told::none_told, crate::proofs::Told::angle_told))]
+fn whole(text: &[u8]) -> Option<Written<Angle>>
+    ensures { result ≡ result_ok (parse_whole text.now) }
+{
+    angled(text, fast_numbers::number(text, Place(0))?)
+}
+
+// A number as an angle in the unit that ends the text.
+#[tactic(auto, unfolding(crate::specs::Units::angled))]
+fn angled(text: &[u8], n: Number) -> Option<Written<Angle>>
+    ensures { result ≡ angled text.now n }
+{
+    let unit = last_unit(text, n.end)?;
+    let number = n.value;
+    Some(Written {
+        value: Angle { number, unit },
+        whole: n.whole,
+        end: n.end,
+    })
+}
+
+// The unit that ends the text: where it has ended no word is looked for.
+#[tactic(auto, unfolding(crate::specs::Units::last_unit))]
+fn last_unit(text: &[u8], at: Place) -> Option<AngleUnit>
+    ensures { result ≡ last_unit text.now at.0 }
+{
+    if at.0 == text.len() {
+        return Some(AngleUnit::Degrees);
+    }
+    let read = angle::parse_unit(text, at)?;
+    if read.next.0 < text.len() {
+        return None;
+    }
+    Some(read.value)
 }

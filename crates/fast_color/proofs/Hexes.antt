@@ -1,143 +1,207 @@
 -- `#` and digits: as a whole text, and at a place.
 use Prim.Native.Nat.{ℕ, zero, suc, ◌+◌, ◌*◌, ◌-◌, ◌≤◌, ◌<◌}
-use mathlib.Core.Bool.{Bool, true, false, ◌&&◌, ◌||◌, not, cond, true≢false}
-use mathlib.Core.List.{List}
+use mathlib.Core.Bool.{true, false}
+use mathlib.Core.List.{List, [], ◌∷◌}
 use mathlib.Core.Logic.{⊎_elim}
-use mathlib.Core.Path.{◌≡◌, refl, sym, ◌∙◌}
+use mathlib.Core.Path.{◌≡◌, refl, sym, ap, ◌∙◌}
 use native.Mathlib.Omega.{arith}
-use borrow.Author.Tests.{not-true, leb-true, ltb-false, eqb-true, eq-eqb, ne_eqb}
-use lib.Dec.{eqb, leb, ltb}
+use borrow.Author.Tests.{eqb-true, ne_eqb, le-leb, lt-ltb, leb-true}
+use lib.Dec.{eqb, leb}
 use lib.ListN.{length, get_or}
-use Rattle.text_bytes.proofs.Ahead.{scan_bytes}
-use Rattle.text_bytes.specs.Moves.{place}
-use Rattle.text_bytes.specs.Bytes.{is_hex_digit}
-use Rattle.stream.specs.Faults.{invalid_value}
-use Rattle.text_bytes.specs.Flow.{bind}
-use Rattle.stream.specs.Refusals.{admit_text}
+use Rattle.std.specs.Prelude.{Ok, Err, Option, Some, None}
+use Rattle.text_bytes.specs.Bytes.{within, is_hex_digit}
 use Rattle.text_bytes.specs.Scan.{scan}
-use Rattle.stream.specs.declared.Admission.TheVariants.{Admitted}
-use Rattle.stream.proofs.Edges.{admit_good}
-use Rattle.text_bytes.proofs.Parts.{rest_part}
-use Rattle.text_bytes.proofs.Ranges.{and_first, and_second, either, le_or_lt}
-use Rattle.text_bytes.proofs.Scans.{scan_ge, scan_le}
+use Rattle.text_bytes.proofs.Ahead.{scan_bytes}
+use Rattle.text_bytes.proofs.Parts.{byte_inside}
+use Rattle.text_bytes.proofs.Ranges.{either, lt_or_le, le_or_lt, within_high}
+use Rattle.text_bytes.proofs.Scans.{scan_on, scan_past, scan_le}
 use Rattle.utf8.proofs.Walks.{ascii_utf8, ascii_all}
+use Rattle.stream.specs.Faults.{invalid_value}
+use Rattle.stream.specs.Refusals.{admit_utf8, admit_text}
 use Rattle.color.specs.Answer.{from_str}
-use Rattle.color.specs.Color.{parse_color}
-use Rattle.color.specs.Hex.{short_hex, hex_pair, short_color, long_color, parse_hex}
+use Rattle.color.specs.Hex.{rgba, color_read, from_hex, short_hex, hex_pair, short_color, long_color, parse_hex}
 use Rattle.color.specs.declared.Color.{Color}
-use Rattle.color.specs.declared.ColorRead.TheVariants as C
-use Rattle.packed.specs.Numbers.{no_color, places, color_number, number_color, color_or}
-use Rattle.fast_color_functions.proofs.Numbers.{anew}
-use Rattle.fast_color.specs.Digits.{if_digits, six_digits, three_digits, eight_digits, four_digits, digits_alone}
-use Rattle.fast_color.specs.Told.{Tells}
-use Rattle.fast_color.proofs.Values.{digit_ascii}
-use Rattle.fast_color.proofs.Answers.{or_first, or_second, text_invalid, text_color}
-use Rattle.fast_color.proofs.Starts.{hash_start, numbered}
+use Rattle.packed.specs.Numbers.{color_number}
+use Rattle.fast_color.specs.Digits.{then_on, digit, pair, color_of, digits_alone}
+use Rattle.fast_color.specs.Told.{numbered, told_or, refused}
+use Rattle.fast_color.proofs.Starts.{hash_start}
+use Rattle.fast_color.proofs.Told.{no_some, text_invalid, text_color}
 
--- digits that were found are there: v is their colour's number
-found : (n i : ℕ) (s : List ℕ) (d : Color) {v : ℕ} → v < no_color → v ≡ if_digits n s i d → (i + n ≤ scan is_hex_digit s i) × (v ≡ color_number d)
-found n i s d {v} h e = go (leb (i + n) (scan is_hex_digit s i)) refl e
+-- a block that was gone through
+came : {A B : Type 0} (x : Option A) (f : A → Option B) {b : B} → then_on x f ≡ Some b → (a : A) × ((x ≡ Some a) × (f a ≡ Some b))
+came (Some a) f e = (a, (refl, e))
+came None f e = no_some e
+
+abbrev two : ℕ → ℕ → ℕ
+two a b = from_hex a * 16 + from_hex b
+
+record Pair (a b x : ℕ) : Type 0 where
+  high : is_hex_digit a ≡ true
+  low : is_hex_digit b ≡ true
+  is : x ≡ two a b
+
+pair_is : (a b x : ℕ) → pair a b ≡ Some x → Pair a b x
+unfolding pair digit
+pair_is a b x e =
+    either (is_hex_digit a)
+    (λ t. either (is_hex_digit b)
+    (λ u. let f : Some (two a b) ≡ Some x = simp (t, u) at e in let z : x ≡ two a b = cc in record { high = t; low = u; is = z })
+    (λ u. let f : None ≡ Some x = simp (t, u) at e in no_some f))
+    (λ t. let f : None ≡ Some x = simp t at e in no_some f)
+
+record Eight (a b c d e f g h v : ℕ) : Type 0 where
+  red : (is_hex_digit a ≡ true) × (is_hex_digit b ≡ true)
+  green : (is_hex_digit c ≡ true) × (is_hex_digit d ≡ true)
+  blue : (is_hex_digit e ≡ true) × (is_hex_digit f ≡ true)
+  alpha : (is_hex_digit g ≡ true) × (is_hex_digit h ≡ true)
+  is : v ≡ color_number (rgba (two a b) (two c d) (two e f) (two g h))
+
+eight : (a b c d e f g h v : ℕ) → color_of (a ∷ b ∷ c ∷ d ∷ e ∷ f ∷ g ∷ h ∷ []) ≡ Some v → Eight a b c d e f g h v
+unfolding color_of
+eight a b c d e f g h v q =
+    let x = came (pair a b) _ q in
+    let y = came (pair c d) _ x.1.1 in
+    let z = came (pair e f) _ y.1.1 in
+    let w = came (pair g h) _ z.1.1 in
+    let i = pair_is a b x.0 x.1.0 in
+    let j = pair_is c d y.0 y.1.0 in
+    let k = pair_is e f z.0 z.1.0 in
+    let l = pair_is g h w.0 w.1.0 in
+    let u : color_number (rgba x.0 y.0 z.0 w.0) ≡ v = given w.1.1 in
+    record {
+      red = (i.high, i.low);
+      green = (j.high, j.low);
+      blue = (k.high, k.low);
+      alpha = (l.high, l.low);
+      is = same i.is j.is k.is l.is u;
+    }
   where
-    go : (t : Bool) → leb (i + n) (scan is_hex_digit s i) ≡ t → v ≡ cond t (color_number d) no_color → (i + n ≤ scan is_hex_digit s i) × (v ≡ color_number d)
-    go true q e = (leb-true (i + n) (scan is_hex_digit s i) q, e)
-    go false q e = absurd (omega arith)
+    given : {n : ℕ} → Some n ≡ Some v → n ≡ v
+    given e = cc
 
--- a run of six digits, three, eight or four is a colour
-module _ (s : List ℕ) (at : ℕ) where
-  long_read : scan is_hex_digit s at ≡ at + 6 → parse_hex s at ≡ C.Value (long_color s at 255) (place (at + 6))
-  unfolding parse_hex bind
-  long_read e = let k : at + 6 - at ≡ 6 = omega arith in simp (e, k)
+    same : {x y z w p q r t : ℕ} → x ≡ p → y ≡ q → z ≡ r → w ≡ t → color_number (rgba x y z w) ≡ v → v ≡ color_number (rgba p q r t)
+    same e f g h u = sym u ∙ rw (e, f, g, h) refl
 
-  short_read : scan is_hex_digit s at ≡ at + 3 → parse_hex s at ≡ C.Value (short_color s at 255) (place (at + 3))
-  unfolding parse_hex bind
-  short_read e = let k : at + 3 - at ≡ 3 = omega arith in simp (e, k)
+module _ (s : List ℕ) where
+  on : (k : ℕ) → k < length s → is_hex_digit (get_or s k 0) ≡ true → scan is_hex_digit s k ≡ scan is_hex_digit s (k + 1)
+  on k l t = scan_on is_hex_digit s k l t
 
-  long_alpha : scan is_hex_digit s at ≡ at + 8 → parse_hex s at ≡ C.Value (long_color s at (hex_pair s (at + 6))) (place (at + 8))
-  unfolding parse_hex bind
-  long_alpha e = let k : at + 8 - at ≡ 8 = omega arith in simp (e, k)
+  past : (k : ℕ) → length s ≡ k → scan is_hex_digit s k ≡ length s
+  past k e = scan_past is_hex_digit s k (omega arith) ∙ sym e
 
-  short_alpha : scan is_hex_digit s at ≡ at + 4 → parse_hex s at ≡ C.Value (short_color s at (short_hex s (at + 3))) (place (at + 4))
-  unfolding parse_hex bind
-  short_alpha e = let k : at + 4 - at ≡ 4 = omega arith in simp (e, k)
+  -- what digits tell: they are a run to the end, and its colour
+  record Alone (v : ℕ) : Type 0 where
+    color : Color
+    number : v ≡ color_number color
+    read : scan is_hex_digit s 1 ≡ length s → parse_hex s 1 ≡ color_read color (length s)
+    all : scan is_hex_digit s 1 ≡ length s
 
-module _ (s : List ℕ) (some : 0 < length s) (hash : get_or s 0 0 ≡ 35) where
+  six_alone : (v : ℕ) → length s ≡ 7 → digits_alone s ≡ Some v → Alone v
+  unfolding digits_alone parse_hex long_color hex_pair from_hex within
+  six_alone v n q =
+      let k = eight (get_or s 1 0) (get_or s 2 0) (get_or s 3 0) (get_or s 4 0) (get_or s 5 0) (get_or s 6 0) 102 102 v (simp n at q) in
+      record { color = _; number = k.is; read = λ h. simp (h, n); all = on 1 (omega arith) k.red.0 ∙ on 2 (omega arith) k.red.1 ∙ on 3 (omega arith) k.green.0 ∙ on 4 (omega arith) k.green.1 ∙ on 5 (omega arith) k.blue.0 ∙ on 6 (omega arith) k.blue.1 ∙ past 7 n }
+
+  three_alone : (v : ℕ) → length s ≡ 4 → digits_alone s ≡ Some v → Alone v
+  unfolding digits_alone parse_hex short_color short_hex from_hex within
+  three_alone v n q =
+      let k = eight (get_or s 1 0) (get_or s 1 0) (get_or s 2 0) (get_or s 2 0) (get_or s 3 0) (get_or s 3 0) 102 102 v (simp n at q) in
+      record { color = _; number = k.is; read = λ h. simp (h, n); all = on 1 (omega arith) k.red.0 ∙ on 2 (omega arith) k.green.0 ∙ on 3 (omega arith) k.blue.0 ∙ past 4 n }
+
+  eight_alone : (v : ℕ) → length s ≡ 9 → digits_alone s ≡ Some v → Alone v
+  unfolding digits_alone parse_hex long_color hex_pair from_hex within
+  eight_alone v n q =
+      let k = eight (get_or s 1 0) (get_or s 2 0) (get_or s 3 0) (get_or s 4 0) (get_or s 5 0) (get_or s 6 0) (get_or s 7 0) (get_or s 8 0) v (simp n at q) in
+      record { color = _; number = k.is; read = λ h. simp (h, n); all = on 1 (omega arith) k.red.0 ∙ on 2 (omega arith) k.red.1 ∙ on 3 (omega arith) k.green.0 ∙ on 4 (omega arith) k.green.1 ∙ on 5 (omega arith) k.blue.0 ∙ on 6 (omega arith) k.blue.1 ∙ on 7 (omega arith) k.alpha.0 ∙ on 8 (omega arith) k.alpha.1 ∙ past 9 n }
+
+  four_alone : (v : ℕ) → length s ≡ 5 → digits_alone s ≡ Some v → Alone v
+  unfolding digits_alone parse_hex short_color short_hex from_hex within
+  four_alone v n q =
+      let k = eight (get_or s 1 0) (get_or s 1 0) (get_or s 2 0) (get_or s 2 0) (get_or s 3 0) (get_or s 3 0) (get_or s 4 0) (get_or s 4 0) v (simp n at q) in
+      record { color = _; number = k.is; read = λ h. simp (h, n); all = on 1 (omega arith) k.red.0 ∙ on 2 (omega arith) k.green.0 ∙ on 3 (omega arith) k.blue.0 ∙ on 4 (omega arith) k.alpha.0 ∙ past 5 n }
+
+  alone : (v : ℕ) → digits_alone s ≡ Some v → Alone v
+  unfolding digits_alone
+  alone v q =
+      either (eqb (length s) 7) (λ a. six_alone v (eqb-true (length s) 7 a) q)
+      (λ a. either (eqb (length s) 4) (λ b. three_alone v (eqb-true (length s) 4 b) q)
+      (λ b. either (eqb (length s) 9) (λ c. eight_alone v (eqb-true (length s) 9 c) q)
+      (λ c. either (eqb (length s) 5) (λ d. four_alone v (eqb-true (length s) 5 d) q)
+      (λ d. let f : None ≡ Some v = simp (a, b, c, d) at q in no_some f))))
+
+-- a digit is ASCII
+digit_ascii : (b : ℕ) → is_hex_digit b ≡ true → b < 128
+digit_ascii b e =
+    ⊎_elim (λ (h : b < 128). h)
+    (λ (h : 128 ≤ b).
+    let f : is_hex_digit b ≡ false = simp (← within_high 48 57 b (omega arith), ← within_high 65 70 b (omega arith), ← within_high 97 102 b (omega arith)) in
+    let g : false ≡ true = sym f ∙ e in
+    let z : ◌≡◌ {A = ℕ} 0 1 = cc in
+    absurd (omega arith))
+    (lt_or_le b 128)
+
+module _ (s : List ℕ) (hash : get_or s 0 0 ≡ 35) where
+  some : 0 < length s
+  some = byte_inside s 0 35 (sym hash) (omega arith)
+
   -- digits alone are ASCII
-  digits_admit : scan is_hex_digit s 1 ≡ length s → length s ≤ 4096 → admit_text s ≡ Admitted
-  digits_admit all small = sym (admit_good s small (ascii_utf8 s (sym (ascii_all s byte)) refl) refl)
+  digits_admit : length s ≤ scan is_hex_digit s 1 → length s ≤ 4096 → admit_text s ≡ Ok tt
+  unfolding admit_text admit_utf8
+  digits_admit all small = simp (← ascii_utf8 s (sym (ascii_all s ascii)) refl, le-leb (length s) 4096 small)
     where
-      byte : (j : ℕ) → j < length s → get_or s j 0 < 128
-      byte zero h = omega (arith, hash)
-      byte (suc j) h = digit_ascii (get_or s (suc j) 0) (scan_bytes is_hex_digit s 1 (suc j) (omega arith) (omega arith))
+      ascii : (j : ℕ) → j < length s → get_or s j 0 < 128
+      ascii zero h = omega (arith, hash)
+      ascii (suc j) h = digit_ascii (get_or s (suc j) 0) (scan_bytes is_hex_digit s 1 (suc j) (omega arith) (omega arith))
 
-  -- n digits, whose colour is d, are the whole text
-  module _ (n : ℕ) {d : Color} (read : scan is_hex_digit s 1 ≡ 1 + n → parse_hex s 1 ≡ C.Value d (place (1 + n))) where
-    alone : {v : ℕ} → v < no_color → n < 9 → length s ≡ 1 + n → v ≡ if_digits n s 1 d → Tells v (color_or (from_str s))
-    alone l small h q =
-        let f = found n 1 s d l q in
-        let k : scan is_hex_digit s 1 ≡ 1 + n = omega (arith, f.0, scan_le is_hex_digit s 1 (omega arith)) in
-        text_color s (digits_admit (k ∙ sym h) (omega arith)) (hash_start s 0 some hash ∙ rw h (read k)) f.1
+  module _ (v : ℕ) (q : digits_alone s ≡ Some v) where
+    nine : length s ≤ 9
+    unfolding digits_alone
+    nine =
+        ⊎_elim (λ (h : length s ≤ 9). h)
+        (λ (h : 9 < length s).
+        let f : None ≡ Some v = simp (ne_eqb (length s) 7 (λ e. omega arith), ne_eqb (length s) 4 (λ e. omega arith), ne_eqb (length s) 9 (λ e. omega arith), ne_eqb (length s) 5 (λ e. omega arith)) at q in
+        no_some f)
+        (le_or_lt (length s) 9)
 
-  pub hex_told : {v : ℕ} → v ≡ digits_alone (anew s) → v < no_color → Tells v (color_or (from_str s))
-  unfolding digits_alone six_digits three_digits eight_digits four_digits
-  hex_told {v} p l =
-      let q : v ≡ digits_alone s = rw (rest_part s 0) at p in
-      either (eqb (length s) 7) (λ f. alone 6 (long_read s 1) l (omega arith) (eqb-true (length s) 7 f) (simp f at q))
-      (λ f. either (eqb (length s) 4) (λ g. alone 3 (short_read s 1) l (omega arith) (eqb-true (length s) 4 g) (simp (f, g) at q))
-      (λ g. either (eqb (length s) 9) (λ i. alone 8 (long_alpha s 1) l (omega arith) (eqb-true (length s) 9 i) (simp (f, g, i) at q))
-      (λ i. either (eqb (length s) 5) (λ j. alone 4 (short_alpha s 1) l (omega arith) (eqb-true (length s) 5 j) (simp (f, g, i, j) at q))
-      (λ j. let z : v ≡ no_color = simp (f, g, i, j) at q in absurd (omega arith)))))
+    -- the whole text
+    pub hex_told : (digits_alone s ≡ Some v) × (numbered (from_str s) ≡ Ok v)
+    unfolding numbered
+    hex_told =
+        let a = alone s v q in
+        let m = digits_admit (omega (arith, a.all)) (omega (arith, nine)) in
+        let t : from_str s ≡ Ok a.color = text_color s m _ (hash_start s 0 some hash ∙ a.read a.all) (omega arith) in
+        (q, ap numbered t ∙ ap Ok (sym a.number))
 
-  -- a run of another number that is the whole text is refused: n is where it ends
-  pub hex_refused : (n : ℕ) → length s ≤ 4096 → n ≡ scan is_hex_digit s 1 → (ltb n (length s) || (eqb n 4 || (eqb n 5 || (eqb n 7 || eqb n 9)))) ≡ false → Tells (no_color + 5 * places + n) (color_or (from_str s))
-  unfolding parse_hex bind
-  hex_refused n small q e =
-      let all : scan is_hex_digit s 1 ≡ length s = omega (arith, ltb-false n (length s) (or_first (ltb n (length s)) _ e), scan_le is_hex_digit s 1 (omega arith)) in
-      text_invalid s (digits_admit all small) n (hash_start s 0 some hash ∙ other (or_second (ltb n (length s)) _ e))
-    where
-      less : (k : ℕ) → eqb n (suc k) ≡ false → eqb (n - 1) k ≡ false
-      less k d = ne_eqb (n - 1) k (λ f. true≢false (sym (eq-eqb n (suc k) (omega (arith, scan_ge is_hex_digit s 1))) ∙ d))
+  -- a run of another number that is the whole text is refused
+  module _ (q : digits_alone s ≡ None) (all : length s ≤ scan is_hex_digit s 1) where
+    digit_at : (k : ℕ) → 0 < k → k < length s → is_hex_digit (get_or s k 0) ≡ true
+    digit_at k l h = scan_bytes is_hex_digit s 1 k (omega arith) (omega arith)
 
-      other : (eqb n 4 || (eqb n 5 || (eqb n 7 || eqb n 9))) ≡ false → parse_hex s 1 ≡ C.Refused (invalid_value n)
-      other e =
-          let g = or_second (eqb n 4) (eqb n 5 || (eqb n 7 || eqb n 9)) e in
-          let h = or_second (eqb n 5) (eqb n 7 || eqb n 9) g in
-          simp (← q, less 3 (or_first (eqb n 4) (eqb n 5 || (eqb n 7 || eqb n 9)) e), less 4 (or_first (eqb n 5) (eqb n 7 || eqb n 9) g), less 6 (or_first (eqb n 7) (eqb n 9) h), less 8 (or_second (eqb n 7) (eqb n 9) h))
+    ends : scan is_hex_digit s 1 ≡ length s
+    ends = omega (arith, all, scan_le is_hex_digit s 1 (omega (arith, some)))
 
-pub ruleset hexes = (hex_told, hex_refused)
-
--- the digits that are tried lie inside: t is what the test of the byte after them answered
-pub tried_inside : (m n : ℕ) (t : Bool) → (leb m n && not t) ≡ true → m ≤ n
-tried_inside m n t h = leb-true m n (and_first (leb m n) (not t) h)
-
-module _ (s : List ℕ) (i : ℕ) (some : i < length s) (hash : get_or s i 0 ≡ 35) where
-  -- n digits, whose colour is d, that no further one follows
-  module _ (n : ℕ) {d : Color} (read : scan is_hex_digit s (i + 1) ≡ i + 1 + n → parse_hex s (i + 1) ≡ C.Value d (place (i + 1 + n))) where
-    tried : {v b : ℕ} {t : Bool} {c : Color} → b ≡ get_or s (i + 1 + n) 0 → t ≡ is_hex_digit b → (leb (i + 1 + n) (length s) && not t) ≡ true
-        → v < no_color → c ≡ number_color v → v ≡ if_digits n s (i + 1) d → C.Value c (place (i + 1 + n)) ≡ parse_color s i
-    tried {t = t} p q h l f e =
-        let g = found n (i + 1) s d l e in
-        let x : is_hex_digit (get_or s (i + 1 + n) 0) ≡ false = rw (← p, ← q) (not-true t (and_second (leb (i + 1 + n) (length s)) (not t) h)) in
-        let k : scan is_hex_digit s (i + 1) ≡ i + 1 + n = ends g.0 x in
-        numbered s i d (hash_start s i some hash ∙ read k) g.1 f
+    other : parse_hex s 1 ≡ Err (invalid_value (scan is_hex_digit s 1))
+    unfolding parse_hex digits_alone color_of pair digit within
+    other =
+        simp (
+          ne_eqb (scan is_hex_digit s 1 - 1) 6 (λ e. let n : length s ≡ 7 = omega (arith, ends) in
+              some_no (simp (n, digit_at 1 (omega arith) (omega arith), digit_at 2 (omega arith) (omega arith), digit_at 3 (omega arith) (omega arith), digit_at 4 (omega arith) (omega arith), digit_at 5 (omega arith) (omega arith), digit_at 6 (omega arith) (omega arith)) at q)),
+          ne_eqb (scan is_hex_digit s 1 - 1) 8 (λ e. let n : length s ≡ 9 = omega (arith, ends) in
+              some_no (simp (n, digit_at 1 (omega arith) (omega arith), digit_at 2 (omega arith) (omega arith), digit_at 3 (omega arith) (omega arith), digit_at 4 (omega arith) (omega arith), digit_at 5 (omega arith) (omega arith), digit_at 6 (omega arith) (omega arith), digit_at 7 (omega arith) (omega arith), digit_at 8 (omega arith) (omega arith)) at q)),
+          ne_eqb (scan is_hex_digit s 1 - 1) 3 (λ e. let n : length s ≡ 4 = omega (arith, ends) in
+              some_no (simp (n, digit_at 1 (omega arith) (omega arith), digit_at 2 (omega arith) (omega arith), digit_at 3 (omega arith) (omega arith)) at q)),
+          ne_eqb (scan is_hex_digit s 1 - 1) 4 (λ e. let n : length s ≡ 5 = omega (arith, ends) in
+              some_no (simp (n, digit_at 1 (omega arith) (omega arith), digit_at 2 (omega arith) (omega arith), digit_at 3 (omega arith) (omega arith), digit_at 4 (omega arith) (omega arith)) at q)),
+        )
       where
-        ends : i + 1 + n ≤ scan is_hex_digit s (i + 1) → is_hex_digit (get_or s (i + 1 + n) 0) ≡ false → scan is_hex_digit s (i + 1) ≡ i + 1 + n
-        ends h x =
-            ⊎_elim (λ (l : scan is_hex_digit s (i + 1) ≤ i + 1 + n). let o : scan is_hex_digit s (i + 1) ≡ i + 1 + n = omega arith in o)
-            (λ (l : i + 1 + n < scan is_hex_digit s (i + 1)).
-            let f : false ≡ true = sym x ∙ scan_bytes is_hex_digit s (i + 1) (i + 1 + n) (omega arith) l in
-            let z : ◌≡◌ {A = ℕ} 0 1 = cc in
-            absurd (omega arith))
-            (le_or_lt (scan is_hex_digit s (i + 1)) (i + 1 + n))
+        some_no : {A C : Type 0} {a : A} → Some a ≡ None → C
+        some_no e = let z : ◌≡◌ {A = ℕ} 0 1 = cc in absurd (omega arith)
 
-  module _ {v b : ℕ} {t : Bool} {c : Color} where
-    pub six_tried : b ≡ get_or s (i + 1 + 6) 0 → t ≡ is_hex_digit b → (leb (i + 1 + 6) (length s) && not t) ≡ true → v < no_color → c ≡ number_color v → v ≡ six_digits s (i + 1)
-        → C.Value c (place (i + 1 + 6)) ≡ parse_color s i
-    unfolding six_digits
-    six_tried = tried 6 (long_read s (i + 1))
-
-    pub three_tried : b ≡ get_or s (i + 1 + 3) 0 → t ≡ is_hex_digit b → (leb (i + 1 + 3) (length s) && not t) ≡ true → v < no_color → c ≡ number_color v → v ≡ three_digits s (i + 1)
-        → C.Value c (place (i + 1 + 3)) ≡ parse_color s i
-    unfolding three_digits
-    three_tried = tried 3 (short_read s (i + 1))
-
-pub ruleset tries = (tried_inside, six_tried, three_tried)
+    pub hex_refused : (digits_alone s ≡ None) × (told_or (refused s (scan is_hex_digit s 1)) (numbered (from_str s)) ≡ numbered (from_str s))
+    unfolding told_or refused numbered
+    hex_refused = (
+      q,
+      either (leb (length s) 4096)
+          (λ t. simp (t, lt-ltb 0 (length s) some, text_invalid s (digits_admit all (leb-true (length s) 4096 t)) (scan is_hex_digit s 1) (hash_start s 0 some hash ∙ other)))
+          (λ t. simp (t, lt-ltb 0 (length s) some)),
+    )

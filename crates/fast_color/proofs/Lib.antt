@@ -1,9 +1,5 @@
-pub mod Empty
-pub mod Values
-pub mod Runs
-pub mod Alpha
-pub mod Answers
+pub mod Near
+pub mod Told
 pub mod Starts
 pub mod Hexes
 pub mod Names
-pub mod Numbers

@@ -1,37 +1,50 @@
--- Hex digits that are read before their run is measured. Only inner contracts speak of it.
-use Rattle.std.specs.Prelude.{ℕ, ◌+◌, cond, List, eqb, leb, length}
+-- `#` and its digits, without a refusal. Only contracts inside the crate speak of it.
+use Rattle.std.specs.Prelude.{ℕ, ◌+◌, ◌*◌, List, [], ◌∷◌, eqb, length, get_or, Option, Some, None, if◌then◌else◌}
 use Rattle.text_bytes.specs.Bytes.{is_hex_digit}
-use Rattle.text_bytes.specs.Scan.{scan}
-use Rattle.color.specs.Hex.{from_hex, short_hex, hex_pair, short_color, long_color}
-use Rattle.color.specs.declared.Color.{Color}
-use Rattle.packed.specs.Numbers.{no_color, color_number}
+use Rattle.color.specs.Hex.{rgba, from_hex}
+use Rattle.packed.specs.Numbers.{color_number}
 
--- the value of a hex digit, 16 for another byte
-unfoldable pub hex_digit : ℕ → ℕ
-hex_digit c = cond (is_hex_digit c) (from_hex c) 16
+-- a block of steps, as `?` goes through it
+abbrev pub then_on : {A B : Type 0} → Option A → (A → Option B) → Option B
+then_on (Some a) f = f a
+then_on None f = None
 
--- the number of a colour, where n digits or more stand at i
-abbrev pub if_digits : ℕ → List ℕ → ℕ → Color → ℕ
-if_digits n s i c = cond (leb (i + n) (scan is_hex_digit s i)) (color_number c) no_color
+infixl 10 ◌>>=◌
+abbrev pub ◌>>=◌ : {A B : Type 0} → Option A → (A → Option B) → Option B
+x >>= f = then_on x f
 
-unfoldable pub six_digits : List ℕ → ℕ → ℕ
-six_digits s i = if_digits 6 s i (long_color s i 255)
+unfoldable pub digit : ℕ → Option ℕ
+digit c = if is_hex_digit c then Some (from_hex c) else None
 
-unfoldable pub three_digits : List ℕ → ℕ → ℕ
-three_digits s i = if_digits 3 s i (short_color s i 255)
+-- its value, 16 for another byte
+unfoldable pub value : ℕ → ℕ
+value c = if is_hex_digit c then from_hex c else 16
 
--- six, and two of alpha
-unfoldable pub eight_digits : List ℕ → ℕ → ℕ
-eight_digits s i = if_digits 8 s i (long_color s i (hex_pair s (i + 6)))
+-- a channel by its two digits
+unfoldable pub pair : ℕ → ℕ → Option ℕ
+pair a b = do
+  high ← digit a
+  low ← digit b
+  Some (high * 16 + low)
 
--- three, and one of alpha
-unfoldable pub four_digits : List ℕ → ℕ → ℕ
-four_digits s i = if_digits 4 s i (short_color s i (short_hex s (i + 3)))
+-- the number of a colour by its eight digits
+unfoldable pub color_of : List ℕ → Option ℕ
+color_of d = do
+  red ← pair (get_or d 0 0) (get_or d 1 0)
+  green ← pair (get_or d 2 0) (get_or d 3 0)
+  blue ← pair (get_or d 4 0) (get_or d 5 0)
+  alpha ← pair (get_or d 6 0) (get_or d 7 0)
+  Some (color_number (rgba red green blue alpha))
 
--- the digits after the first byte of a text of 7, 4, 9 or 5 bytes
-unfoldable pub digits_alone : List ℕ → ℕ
-digits_alone s =
-    cond (eqb (length s) 7) (six_digits s 1)
-    (cond (eqb (length s) 4) (three_digits s 1)
-    (cond (eqb (length s) 9) (eight_digits s 1)
-    (cond (eqb (length s) 5) (four_digits s 1) no_color)))
+-- a text of `#` and six digits, three, eight or four: short ones are doubled, and absent alpha is `ff` (102 twice)
+unfoldable pub digits_alone : List ℕ → Option ℕ
+digits_alone w =
+    let a = get_or w 1 0 in
+    let b = get_or w 2 0 in
+    let c = get_or w 3 0 in
+    let d = get_or w 4 0 in
+    if eqb (length w) 7 then color_of (a ∷ b ∷ c ∷ d ∷ get_or w 5 0 ∷ get_or w 6 0 ∷ 102 ∷ 102 ∷ [])
+    else (if eqb (length w) 4 then color_of (a ∷ a ∷ b ∷ b ∷ c ∷ c ∷ 102 ∷ 102 ∷ [])
+    else (if eqb (length w) 9 then color_of (a ∷ b ∷ c ∷ d ∷ get_or w 5 0 ∷ get_or w 6 0 ∷ get_or w 7 0 ∷ get_or w 8 0 ∷ [])
+    else (if eqb (length w) 5 then color_of (a ∷ a ∷ b ∷ b ∷ c ∷ c ∷ d ∷ d ∷ [])
+    else None)))

@@ -1,134 +1,61 @@
-// Hex digits, each read once and all tested together.
-ghost use Rattle.std.specs.Prelude.{false, ◌≡◌, ◌+◌, ◌≤◌, length};
-ghost use Rattle.text_bytes.specs.Bytes.{within};
-ghost use Rattle.fast_color.specs.Digits.{hex_digit, six_digits, three_digits, eight_digits, four_digits, digits_alone};
+// Hex digits, each read once.
+ghost use Rattle.std.specs.Prelude.{◌≡◌};
+ghost use Rattle.fast_color.specs.Digits.{value, pair, color_of, digits_alone};
 
 use color::Color;
-use packed::NO_COLOR;
-use text_bytes::Place;
 
-// Where alpha begins in a colour's number, and an alpha of 255 there.
-const ALPHA: u64 = 0x100_0000;
-
-const OPAQUE: u64 = 0xff00_0000;
-
-// The digits of a text that is `#` and six, three, eight or four of them.
-pub fn digits_alone(text: &[u8]) -> u64
+// The number of a colour whose text is `#` and six, three, eight or four digits; None for any other text.
+#[tactic(auto, unfolding(crate::specs::Digits::digits_alone))]
+pub fn digits_alone(text: &[u8]) -> Option<u64>
     ensures { result ≡ digits_alone text.now }
 {
-    if text.len() == 7 {
-        return six_digits(text, Place(1));
+    match text {
+        [_, a, b, c, d, e, f] => color_of([*a, *b, *c, *d, *e, *f, b'f', b'f']),
+        [_, a, b, c] => color_of([*a, *a, *b, *b, *c, *c, b'f', b'f']),
+        [_, a, b, c, d, e, f, g, h] => color_of([*a, *b, *c, *d, *e, *f, *g, *h]),
+        [_, a, b, c, d] => color_of([*a, *a, *b, *b, *c, *c, *d, *d]),
+        _ => None,
     }
-    if text.len() == 4 {
-        return three_digits(text, Place(1));
-    }
-    if text.len() == 9 {
-        return eight_digits(text, Place(1));
-    }
-    if text.len() == 5 {
-        return four_digits(text, Place(1));
-    }
-    NO_COLOR
 }
 
-// Six digits, the most common colour.
-pub fn six_digits(text: &[u8], at: Place) -> u64
-    requires { at.0 + 6 ≤ length text.now }
-    ensures { result ≡ six_digits text.now at.0 }
+// The number of a colour by its eight digits; compiled into each arm above, where an absent alpha is a constant.
+#[inline(always)]
+#[tactic(auto, unfolding(crate::specs::Digits::color_of))]
+fn color_of(digits: [u8; 8]) -> Option<u64>
+    ensures { result ≡ color_of digits }
 {
-    let i = at.0;
-    let a = hex_digit(text[i]);
-    let b = hex_digit(text[i + 1]);
-    let c = hex_digit(text[i + 2]);
-    let d = hex_digit(text[i + 3]);
-    let e = hex_digit(text[i + 4]);
-    let f = hex_digit(text[i + 5]);
-    if (a < 16) & ((b < 16) & ((c < 16) & ((d < 16) & ((e < 16) & (f < 16))))) {
-        return packed::color_number(Color {
-            red: a * 16 + b,
-            green: c * 16 + d,
-            blue: e * 16 + f,
-            alpha: 255,
-        });
-    }
-    NO_COLOR
+    let [a, b, c, d, e, f, g, h] = digits;
+    Some(packed::color_number(Color {
+        red: pair(a, b)?,
+        green: pair(c, d)?,
+        blue: pair(e, f)?,
+        alpha: pair(g, h)?,
+    }))
 }
 
-pub fn three_digits(text: &[u8], at: Place) -> u64
-    requires { at.0 + 3 ≤ length text.now }
-    ensures { result ≡ three_digits text.now at.0 }
+// A channel by its two digits.
+#[inline(always)]
+#[tactic(auto, unfolding(crate::specs::Digits::pair, crate::specs::Digits::digit, crate::specs::Digits::value), using(packed::proofs::Channels::digit_low))]
+fn pair(high: u8, low: u8) -> Option<u8>
+    ensures { result ≡ pair high low }
 {
-    let i = at.0;
-    let a = hex_digit(text[i]);
-    let b = hex_digit(text[i + 1]);
-    let c = hex_digit(text[i + 2]);
-    if (a < 16) & ((b < 16) & (c < 16)) {
-        return packed::color_number(Color {
-            red: a * 16 + a,
-            green: b * 16 + b,
-            blue: c * 16 + c,
-            alpha: 255,
-        });
+    let high = value(high);
+    let low = value(low);
+    if (high < 16) & (low < 16) {
+        return Some(high * 16 + low);
     }
-    NO_COLOR
+    None
 }
 
-// Six digits, and two of alpha in place of 255.
-fn eight_digits(text: &[u8], at: Place) -> u64
-    requires { at.0 + 8 ≤ length text.now }
-    ensures { result ≡ eight_digits text.now at.0 }
-{
-    let i = at.0;
-    let v = six_digits(text, at);
-    let g = hex_digit(text[i + 6]);
-    let h = hex_digit(text[i + 7]);
-    if (v < NO_COLOR) & ((g < 16) & (h < 16)) {
-        return v - OPAQUE + ((g * 16 + h) as u64) * ALPHA;
-    }
-    NO_COLOR
-}
-
-// Three digits, and one of alpha, doubled.
-fn four_digits(text: &[u8], at: Place) -> u64
-    requires { at.0 + 4 ≤ length text.now }
-    ensures { result ≡ four_digits text.now at.0 }
-{
-    let i = at.0;
-    let v = three_digits(text, at);
-    let d = hex_digit(text[i + 3]);
-    if (v < NO_COLOR) & (d < 16) {
-        return v - OPAQUE + ((d * 16 + d) as u64) * ALPHA;
-    }
-    NO_COLOR
-}
-
-// The value of a hex digit, 16 for another byte.
-fn hex_digit(c: u8) -> u8
-    ensures { result ≡ hex_digit c }
+// 16 for a byte that is no digit: with an Option each digit costs a branch, which texts from files seldom foretell.
+#[inline(always)]
+#[tactic(auto, unfolding(crate::specs::Digits::value, color::specs::Hex::from_hex, text_bytes::specs::Bytes::within))]
+fn value(c: u8) -> u8
+    ensures { result ≡ value c }
 {
     match c {
         b'0'..=b'9' => c - b'0',
-        _ => hex_letter(c),
-    }
-}
-
-// One range in each function: of several in one `match` each costs two comparisons.
-fn hex_letter(c: u8) -> u8
-    requires { false ≡ within 48 57 c }
-    ensures { result ≡ hex_digit c }
-{
-    match c {
         b'a'..=b'f' => c - b'a' + 10,
-        _ => hex_capital(c),
-    }
-}
-
-fn hex_capital(c: u8) -> u8
-    requires false_value { false ≡ within 48 57 c }
-    requires false_value_2 { false ≡ within 97 102 c }
-    ensures { result ≡ hex_digit c }
-{
-    match c {
         b'A'..=b'F' => c - b'A' + 10,
         _ => 16,
     }

@@ -1,5 +1,3 @@
-pub mod Numbers
-pub mod Tellings
 pub mod Openings
-pub mod WholeNumbers
-pub mod Told
+pub mod Items
+pub mod Tellings

@@ -1,108 +1,115 @@
 -- A colour that is told step by step is the one that the plain reader reads, and is untold where that refuses.
-use Prim.Native.Nat.{ℕ, ◌+◌, ◌*◌, ◌≤◌, ◌<◌}
-use mathlib.Core.Bool.{Bool, true, false, cond}
+use Prim.Native.Nat.{ℕ, ◌+◌}
+use mathlib.Core.Bool.{Bool, true, false}
 use mathlib.Core.List.{List}
-use mathlib.Core.Path.{◌≡◌, refl, sym, ap, ◌∙◌}
-use native.Mathlib.Omega.{arith}
+use mathlib.Core.Path.{◌≡◌, refl, ◌∙◌}
 use borrow.Author.Tests.{lt-leb, leb-false}
 use lib.Dec.{eqb, leb}
-use lib.Ieee.{Float}
+use lib.Ieee.{Float, binary64, div, mul}
 use lib.ListN.{length, get_or}
-use Rattle.text_bytes.specs.Moves.{place}
+use Rattle.std.specs.Prelude.{Result, Ok, Err, Option, Some, None, if◌then◌else◌}
+use Rattle.std.specs.Result.{result_ok}
 use Rattle.text_bytes.specs.Bytes.{is_space}
-use Rattle.stream.specs.Faults.{consume_byte}
-use Rattle.text_bytes.specs.Flow.{bind}
+use Rattle.text_bytes.specs.Flow.{◌>>=◌}
+use Rattle.text_bytes.specs.Moves.{place}
 use Rattle.text_bytes.specs.Scan.{scan}
 use Rattle.text_bytes.specs.Words.{is_curr_byte_eq}
-use Rattle.text_bytes.specs.declared.Place.{Place}
-use Rattle.text_bytes.proofs.Parts.{rest_part}
 use Rattle.text_bytes.proofs.Ranges.{either}
-use Rattle.text_bytes.proofs.Scans.{scan_here}
 use Rattle.text_bytes.proofs.Wording.{curr_there, curr_inside, curr_byte}
-use Rattle.numbers.specs.Moves.{then_number}
-use Rattle.numbers.specs.Number.{parse_list_number, parse_list_number_or_percent}
-use Rattle.numbers.specs.declared.Number.{Number}
-use Rattle.numbers.specs.declared.NumberRead.{NumberRead}
-use Rattle.numbers.specs.declared.NumberRead.TheVariants as N
-use Rattle.color.specs.Color.{rgba, close_bracket, parse_alpha}
-use Rattle.color.specs.Hsl.{hsl_to_rgb, hsl_color}
+use Rattle.stream.specs.Faults.{consume_byte}
+use Rattle.stream.specs.declared.Fault.{Fault}
+use Rattle.stream.specs.declared.Read.{Read}
+use Rattle.floats.specs.Floats.{channel_of}
+use Rattle.numbers.specs.Moves.{Number}
+use Rattle.numbers.specs.Number.{parse_number, after_item, parse_list_number, parse_list_number_or_percent}
+use Rattle.numbers.specs.Powers.{hundred}
+use Rattle.color.specs.Color.{d255, scaled_channel, channel, close_bracket, parse_alpha, rgb_plain, rgb_marked, rgb_rest, hsl_rest}
+use Rattle.color.specs.Hex.{rgba}
+use Rattle.color.specs.Hsl.{hsl_color}
 use Rattle.color.specs.declared.Color.{Color}
-use Rattle.color.specs.declared.ColorRead.{ColorRead}
-use Rattle.color.specs.declared.ColorRead.TheVariants as C
-use Rattle.packed.specs.Numbers.{places, color_number}
 use Rattle.fast_numbers.specs.Told.{told_number}
-use Rattle.fast_numbers.specs.declared.ToldNumber.{ToldNumber}
-use Rattle.fast_color_functions.specs.Told.{told_color}
-use Rattle.fast_color_functions.proofs.Numbers.{anew, Late, told_here, late}
+use Rattle.fast_numbers.proofs.Told.{told_read, told_unread}
+use Rattle.fast_color_functions.specs.Told.{told_item, whole_at, rgb_numbers, hsl_numbers}
+use Rattle.fast_color_functions.proofs.Items.{whole_known}
 
-module _ (x : ℕ) where
-  -- what a call answered, and a flag that one answered
-  pub tell_bind : {A : Type 0} (a r : A) (k : A → ColorRead) → r ≡ a → x ≡ told_color (k r) → x ≡ told_color (bind a k)
-  unfolding bind
-  tell_bind a r k q h = rw (← q) h
+abbrev and_then : {A B : Type 0} → Option A → (A → Option B) → Option B
+and_then None f = None
+and_then (Some a) f = f a
 
-  pub tell_yes : (t r : Bool) (a b : ColorRead) → r ≡ t → r ≡ true → x ≡ told_color a → x ≡ told_color (cond t a b)
-  tell_yes t r a b q e h = rw (← q, e) h
+-- going on with a number that is told, or not
+told_then : {B : Type 0} (r : Result (Read Number) Fault) (f : Read Number → Result B Fault) (g : Read Float → Option B)
+    → ((x : Read Number) → result_ok (f x) ≡ g (record { value = x.value.value; next = x.next })) → result_ok (r >>= f) ≡ and_then (told_item r) g
+told_then (Ok x) f g h = h x
+told_then (Err e) f g h = refl
 
-  pub tell_no : (t r : Bool) (a b : ColorRead) → r ≡ t → r ≡ false → x ≡ told_color b → x ≡ told_color (cond t a b)
-  tell_no t r a b q e h = rw (← q, e) h
+-- the same for a value that is made of what is read
+made_then : {A B C : Type 0} (r : Result A Fault) (k : A → C) (f : A → Result B Fault) (g : C → Option B)
+    → ((x : A) → result_ok (f x) ≡ g (k x)) → result_ok (r >>= f) ≡ and_then (result_ok (r >>= (λ x. Ok (k x)))) g
+made_then (Ok x) k f g h = h x
+made_then (Err e) k f g h = refl
 
-  -- a number that is told: the plain reader goes on with its value
-  pub tell_number : (t : NumberRead) (r : ToldNumber) (k : Number → Place → ColorRead) → r ≡ told_number t → (r.end.0 ≡ 0 → ⊥)
-      → ((whole : Bool) (end : Place) → x ≡ told_color (k (record { value = r.value; whole = whole; end = end }) r.end)) → x ≡ told_color (then_number C.Refused t k)
-  unfolding told_number
-  tell_number (N.Value n p) r k q h f = rw q at (f n.whole n.end)
-  tell_number (N.Refused e) r k q h f = absurd (h (ap (λ u. u.end.0) q))
-
--- a number that is not
-pub tell_none : (t : NumberRead) (r : ToldNumber) (k : Number → Place → ColorRead) (x : ℕ) → r ≡ told_number t → Late t → r.end.0 ≡ 0 → x ≡ 0 → x ≡ told_color (then_number C.Refused t k)
-unfolding told_number told_color
-tell_none (N.Value n p) r k x q v h u = let e : p.0 ≡ 0 = rw q at h in absurd (omega (arith, v.ends))
-tell_none (N.Refused e) r k x q v h u = u
-
--- the bracket, where spaces have been skipped to i: t is what the test for it answered
-module _ (s : List ℕ) (at : ℕ) {i : ℕ} (c : Color) {t : Bool} (q : i ≡ scan is_space s at) (w : t ≡ is_curr_byte_eq s i 41) where
-  pub tell_close : {x : ℕ} → t ≡ true → x ≡ told_color (C.Value c (place (i + 1))) → x ≡ told_color (close_bracket s at c)
-  unfolding close_bracket bind consume_byte
-  tell_close e h = simp (← q, lt-leb (length s) i (curr_inside s i 41 w e), curr_byte s i 41 w e) h
-
-  pub tell_unclosed : {x : ℕ} → t ≡ false → x ≡ 0 → x ≡ told_color (close_bracket s at c)
-  unfolding close_bracket bind consume_byte told_color
-  tell_unclosed e h =
-      either (leb (length s) i) (λ f. simp (← q, f) h)
-      (λ f.
-      let g : eqb (get_or s i 0) 41 ≡ false = curr_there s i 41 (leb-false (length s) i f) ∙ (sym w ∙ e) in
-      simp (← q, f, g) h)
-
--- a bracket that stands there needs no spaces skipped
-pub tell_here : (s : List ℕ) (i : ℕ) (c : Color) {t : Bool} {x : ℕ} → t ≡ is_curr_byte_eq s i 41 → t ≡ true → x ≡ told_color (C.Value c (place (i + 1))) → x ≡ told_color (close_bracket s i c)
-tell_here s i c w e = tell_close s i c (sym (scan_here is_space s i (rw (curr_byte s i 41 w e) refl) (curr_inside s i 41 w e))) w e
-
--- and lies inside
-pub close_near : (s : List ℕ) (i : ℕ) {t : Bool} → t ≡ is_curr_byte_eq s i 41 → t ≡ true → length s ≤ 4096 → i < 4096
-close_near s i w e h = omega (arith, curr_inside s i 41 w e)
-
--- a colour by its number
-pub tell_color : (c : Color) {n x : ℕ} (p : Place) → n ≡ color_number c → x ≡ p.0 + n * places → x ≡ told_color (C.Value c p)
-unfolding told_color
-tell_color c p e h = rw (← e) h
-
--- a colour of `hsl` has alpha 255
-pub hsl_opaque : (h s l : Float) {c : Color} → c ≡ hsl_color h s l → rgba c.red c.green c.blue 255 ≡ hsl_color h s l
-unfolding hsl_color hsl_to_rgb
-hsl_opaque h s l e = rw e refl
-
--- what is told of a slice that is taken anew is told of the text
 module _ (s : List ℕ) (at : ℕ) where
-  pub item_anew : {r : ToldNumber} → r ≡ told_number (parse_list_number (anew s) at) → r ≡ told_number (parse_list_number s at)
-  item_anew q = rw (rest_part s 0) at q
+  pub channel_is : (m : Bool) → result_ok (channel s at m)
+      ≡ and_then (told_item (if m then parse_list_number_or_percent s at else parse_list_number s at)) (λ r.
+      Some (record { value = channel_of (if m then mul binary64 r.value d255 else r.value); next = r.next }))
+  unfolding channel
+  channel_is true = told_then (parse_list_number_or_percent s at) _ _ (λ x. refl)
+  channel_is false = told_then (parse_list_number s at) _ _ (λ x. refl)
 
-  pub share_anew : {r : ToldNumber} → r ≡ told_number (parse_list_number_or_percent (anew s) at) → r ≡ told_number (parse_list_number_or_percent s at)
-  share_anew q = rw (rest_part s 0) at q
+  pub rest_is : (n : Float) (m : Bool) → result_ok (if m then rgb_marked s at n else rgb_plain s at n)
+      ≡ and_then (result_ok (channel s at m)) (λ green.
+      and_then (result_ok (channel s green.next.0 m)) (λ blue.
+      result_ok (parse_alpha s blue.next.0 (rgba (channel_of (if m then mul binary64 (div binary64 n hundred) d255 else n)) green.value blue.value 255))))
+  unfolding channel rgb_marked rgb_plain
+  rest_is n true = made_then (parse_list_number_or_percent s at) _ _ _ (λ x. made_then (parse_list_number_or_percent s x.next.0) _ _ _ (λ y. refl))
+  rest_is n false = made_then (parse_list_number s at) _ _ _ (λ x. made_then (parse_list_number s x.next.0) _ _ _ (λ y. refl))
 
-  pub alpha_anew : (c : Color) {x : ℕ} → x ≡ told_color (parse_alpha (anew s) at c) → x ≡ told_color (parse_alpha s at c)
-  alpha_anew c q = rw (rest_part s 0) at q
+  pub hsl_is : result_ok (hsl_numbers s at)
+      ≡ and_then (told_item (parse_list_number s at)) (λ hue.
+      and_then (told_item (parse_list_number_or_percent s hue.next.0)) (λ saturation.
+      and_then (told_item (parse_list_number_or_percent s saturation.next.0)) (λ lightness.
+      result_ok (parse_alpha s lightness.next.0 (hsl_color hue.value saturation.value lightness.value)))))
+  unfolding hsl_numbers hsl_rest
+  hsl_is =
+      told_then (parse_list_number s at) _ _ (λ x.
+      told_then (parse_list_number_or_percent s x.next.0) _ _ (λ y. told_then (parse_list_number_or_percent s y.next.0) _ _ (λ z. refl)))
 
-pub ruleset anews = (item_anew, share_anew, alpha_anew)
+  -- the first number of `rgb`
+  pub first_whole : (r : Read Float) → whole_at s at ≡ Some r → (whole_at s at ≡ Some r) × (rgb_numbers s at ≡ rgb_plain s r.next.0 r.value)
+  unfolding rgb_numbers rgb_rest
+  first_whole r q = let w = whole_known s at r q in (q, simp (w.is, w.unmarked, w.next))
 
-pub ruleset tellings = (told_here, late, tell_bind, tell_yes, tell_no, tell_number, tell_none, tell_close, tell_unclosed, tell_here, close_near, tell_color, hsl_opaque)
+  pub first_none : told_number (parse_number s at) ≡ None → result_ok (rgb_numbers s at) ≡ None
+  unfolding rgb_numbers
+  first_none h = simp (told_unread s at h).is
+
+  module _ (n : Number) (h : told_number (parse_number s at) ≡ Some n) where
+    pub first_marked : is_curr_byte_eq s n.end.0 37 ≡ true
+        → (told_number (parse_number s at) ≡ Some n) × (rgb_numbers s at ≡ rgb_marked s (after_item s (n.end.0 + 1)) n.value)
+    unfolding rgb_numbers rgb_rest
+    first_marked m = (h, simp (told_read s at n h, m))
+
+    pub first_plain : is_curr_byte_eq s n.end.0 37 ≡ false → (told_number (parse_number s at) ≡ Some n) × (rgb_numbers s at ≡ rgb_plain s (after_item s n.end.0) n.value)
+    unfolding rgb_numbers rgb_rest
+    first_plain m = (h, simp (told_read s at n h, m))
+
+  module _ (c : Color) where
+    pub close_is : result_ok (close_bracket s at c)
+        ≡ (let i = scan is_space s at in if is_curr_byte_eq s i 41 then Some (record { value = c; next = place (i + 1) }) else None)
+    unfolding close_bracket consume_byte
+    close_is =
+        let i = scan is_space s at in
+        either (is_curr_byte_eq s i 41)
+        (λ t. simp (t, lt-leb (length s) i (curr_inside s i 41 refl t), curr_byte s i 41 refl t))
+        (λ t. either (leb (length s) i) (λ f. simp (t, f))
+        (λ f.
+        let g : eqb (get_or s i 0) 41 ≡ false = curr_there s i 41 (leb-false (length s) i f) ∙ t in
+        simp (t, f, g)))
+
+    pub alpha_is : result_ok (parse_alpha s at c)
+        ≡ (let i = scan is_space s at in if is_curr_byte_eq s i 41 then result_ok (close_bracket s i c)
+        else and_then (told_item (parse_list_number s i)) (λ r. result_ok (close_bracket s r.next.0 (rgba c.red c.green c.blue (scaled_channel r.value)))))
+    unfolding parse_alpha
+    alpha_is =
+        let i = scan is_space s at in
+        either (is_curr_byte_eq s i 41) (λ t. simp t) (λ t. simp t (told_then (parse_list_number s i) _ _ (λ x. refl)))

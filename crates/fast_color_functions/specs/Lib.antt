@@ -1,3 +1,1 @@
 pub mod Told
-pub mod Brackets
-pub mod WholeNumbers

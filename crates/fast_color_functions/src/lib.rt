@@ -1,31 +1,22 @@
 // Colours without their refusals: `rgb` and `hsl` are told sooner, and every other colour as `color` reads it.
 #![tactic(auto)]
 
-ghost use Rattle.std.specs.Prelude.{true, ◌≡◌, ◌+◌, ◌*◌, ◌≤◌, ◌<◌, length};
-ghost use Rattle.text_bytes.specs.Moves.{place};
+ghost use Rattle.std.specs.Prelude.{◌≡◌, if◌then◌else◌};
+ghost use Rattle.std.specs.Result.{result_ok};
 ghost use Rattle.numbers.specs.Number.{parse_list_number, parse_list_number_or_percent};
-ghost use Rattle.color.specs.Color.{rgba, after_number, parse_alpha, rgb_plain, rgb_marked, parse_color};
-ghost use Rattle.color.specs.declared.ColorRead.TheVariants as C;
-ghost use Rattle.packed.specs.Numbers.{no_color, places};
-ghost use Rattle.fast_numbers.specs.Told.{told_number};
-ghost use Rattle.fast_color_functions.specs.Told.{told_color};
-ghost use Rattle.fast_color_functions.specs.Brackets.{rgb_numbers, rgb_blue, hsl_numbers};
-ghost use Rattle.fast_color_functions.specs.WholeNumbers.{is_stop, WholeAt, Tells};
+ghost use Rattle.color.specs.Color.{close_bracket, parse_alpha, channel, rgb_plain, rgb_marked, parse_color};
+ghost use Rattle.fast_color_functions.specs.Told.{told_item, whole_at, rgb_numbers, hsl_numbers};
 
-use color::{Color, ColorRead};
-use fast_numbers::ToldNumber;
+use color::Color;
 use numbers::LIMIT;
+use stream::Read;
 use text_bytes::Place;
 
-// Where the colour's number begins in what is told, above the place where reading goes on.
-pub const TOLD_COLOR: u64 = 0x2000;
-
-// A colour and the place where reading goes on, spaces before it skipped; 0 where none is read.
-// Told by one number, which comes back in a register: a struct of two is copied by 16 bytes, which wait for the
-// stores of its halves. So is a slice that is handed on whole, and not taken anew.
-pub fn told_color(text: &[u8], at: Place) -> u64
-    requires { length text.now ≤ 4096 }
-    ensures { result ≡ told_color (parse_color text.now at.0) }
+// A colour, spaces before it skipped; None where the plain reader reads none.
+// A slice is taken anew on its way: handed on whole it is copied by 16 bytes, which wait for the stores of its two halves.
+#[tactic(auto, using(crate::proofs::Openings::open_rgb, crate::proofs::Openings::open_rgba, crate::proofs::Openings::open_hsl, crate::proofs::Openings::open_hsla, text_bytes::proofs::Wording::word_ends, fast_numbers::proofs::Told::all_text))]
+pub fn told_color(text: &[u8], at: Place) -> Option<Read<Color>>
+    ensures { result ≡ result_ok (parse_color text.now at.0) }
 {
     let start = text_bytes::skip_spaces(text, at);
     let i = start.0;
@@ -41,262 +32,155 @@ pub fn told_color(text: &[u8], at: Place) -> u64
     if text_bytes::starts_with(text, start, b"hsla(") {
         return hsl(&text[0..], Place(i + 5));
     }
-    told_plainly(text, at)
-}
-
-// Any other colour, as the plain reader reads it.
-fn told_plainly(text: &[u8], at: Place) -> u64
-    requires { length text.now ≤ 4096 }
-    ensures { result ≡ told_color (parse_color text.now at.0) }
-{
-    match color::parse_color(&text[0..], at) {
-        ColorRead::Value(color, end) => joined(packed::color_number(color), end),
-        ColorRead::Refused(_) => 0,
-    }
+    color::parse_color(&text[0..], at).ok()
 }
 
 // The numbers of `rgb`: the `%` of the first decides for the others.
-fn rgb(text: &[u8], at: Place) -> u64
-    requires { length text.now ≤ 4096 }
-    ensures { result ≡ told_color (rgb_numbers text.now at.0) }
+#[tactic(auto, using(crate::proofs::Tellings::first_whole, crate::proofs::Tellings::first_none, crate::proofs::Tellings::first_marked, crate::proofs::Tellings::first_plain, text_bytes::proofs::Wording::curr_ends, fast_numbers::proofs::Told::all_text))]
+fn rgb(text: &[u8], at: Place) -> Option<Read<Color>>
+    ensures { result ≡ result_ok (rgb_numbers text.now at.0) }
 {
-    let told = wholes(text, at);
-    if 0 < told {
-        return told;
+    if let Some(first) = whole(text, at) {
+        return rgb_rest(text, first.next, first.value, false);
     }
-    any_rgb(text, at)
-}
-
-// The same for numbers of every kind.
-fn any_rgb(text: &[u8], at: Place) -> u64
-    requires { length text.now ≤ 4096 }
-    ensures { result ≡ told_color (rgb_numbers text.now at.0) }
-{
-    let n = fast_numbers::number(&text[0..], at);
-    let end = n.end;
-    let i = end.0;
-    if i == 0 {
-        return 0;
-    }
+    let first = fast_numbers::number(&text[0..], at)?;
+    let end = first.end;
     if text_bytes::is_curr_byte_eq(text, end, b'%') {
-        return marked(text, after_number(text, Place(i + 1)), n.value);
+        let next = numbers::after_item(text, Place(end.0 + 1));
+        return rgb_rest(text, next, first.value, true);
     }
-    plain(text, after_number(text, end), n.value)
+    rgb_rest(text, numbers::after_item(text, end), first.value, false)
 }
 
-// A whole number, and the byte `stop` directly after it: there is neither a sign, a dot nor an exponent to look for.
-fn whole(text: &[u8], at: Place, stop: u8) -> ToldNumber
-    requires { is_stop stop ≡ true }
-    ensures { WholeAt text.now at.0 stop result }
+// Green and blue after red, which is marked or not.
+// The hint, here and below: an Option of a struct comes back by memory, and calls would make all a tenth slower.
+#[tactic(auto, using(crate::proofs::Tellings::rest_is))]
+#[inline(always)]
+fn rgb_rest(text: &[u8], at: Place, first: f64, marked: bool) -> Option<Read<Color>>
+    ensures { result ≡ result_ok (if marked then rgb_marked text.now at.0 first else rgb_plain text.now at.0 first) }
 {
-    let start = text_bytes::skip_spaces(text, at);
-    let digits = numbers::read_digits(text, start, 0);
-    let i = start.0;
-    let end = digits.end;
-    let e = end.0;
-    let n = digits.value;
-    if (i < e) & ((n < LIMIT) & text_bytes::is_curr_byte_eq(text, end, stop)) {
-        return ToldNumber {
-            value: fast_numbers::whole_value(false, n),
-            whole: true,
-            end,
-        };
-    }
-    ToldNumber {
-        value: 0.0,
-        whole: false,
-        end: Place(0),
-    }
+    let green = channel(text, at, marked)?;
+    let blue = channel(text, green.next, marked)?;
+    // divided and multiplied apart, so that it rounds as green and blue do
+    let red = if marked {
+        (first / 100.0) * 255.0
+    } else {
+        first
+    };
+    let color = Color {
+        red: floats::channel(red),
+        green: green.value,
+        blue: blue.value,
+        alpha: 255,
+    };
+    alpha(text, blue.next, color)
 }
 
-// Three whole numbers with commas, as most colours with `rgb` have; 0 where nothing is told.
-fn wholes(text: &[u8], at: Place) -> u64
-    requires { length text.now ≤ 4096 }
-    ensures { Tells result (told_color (rgb_numbers text.now at.0)) }
+// Green or blue, as `color` has it.
+#[tactic(auto, using(crate::proofs::Tellings::channel_is))]
+#[inline(always)]
+fn channel(text: &[u8], at: Place, marked: bool) -> Option<Read<u8>>
+    ensures { result ≡ result_ok (channel text.now at.0 marked) }
 {
-    let r = whole(text, at, b',');
-    let i = r.end.0;
-    if i == 0 {
-        return 0;
-    }
-    let g = whole(text, Place(i + 1), b',');
-    let j = g.end.0;
-    if j == 0 {
-        return 0;
-    }
-    let red = floats::channel(r.value);
-    whole_blue(text, Place(j + 1), red, floats::channel(g.value))
-}
-
-// The third of them, and the bracket or a fourth number.
-fn whole_blue(text: &[u8], at: Place, red: u8, green: u8) -> u64
-    requires { length text.now ≤ 4096 }
-    ensures { Tells result (told_color (rgb_blue text.now at.0 red green)) }
-{
-    let b = whole(text, at, b')');
-    let end = b.end;
-    if 0 < end.0 {
-        return closed(end, red, green, floats::channel(b.value), 255);
-    }
-    let c = whole(text, at, b',');
-    let k = c.end.0;
-    if k == 0 {
-        return 0;
-    }
-    alpha(text, Place(k + 1), red, green, floats::channel(c.value))
+    let read = item(text, at, marked)?;
+    let value = if marked {
+        read.value * 255.0
+    } else {
+        read.value
+    };
+    Some(Read {
+        value: floats::channel(value),
+        next: read.next,
+    })
 }
 
 // The numbers of `hsl`.
-fn hsl(text: &[u8], at: Place) -> u64
-    requires { length text.now ≤ 4096 }
-    ensures { result ≡ told_color (hsl_numbers text.now at.0) }
+#[tactic(auto, using(crate::proofs::Tellings::hsl_is))]
+fn hsl(text: &[u8], at: Place) -> Option<Read<Color>>
+    ensures { result ≡ result_ok (hsl_numbers text.now at.0) }
 {
-    let hue = item(&text[0..], at);
-    let p = hue.end;
-    if p.0 == 0 {
-        return 0;
-    }
-    let saturation = share(&text[0..], p);
-    let q = saturation.end;
-    if q.0 == 0 {
-        return 0;
-    }
-    let lightness = share(&text[0..], q);
-    let r = lightness.end;
-    if r.0 == 0 {
-        return 0;
-    }
-    let c = color::hsl_color(hue.value, saturation.value, lightness.value);
-    alpha(&text[0..], r, c.red, c.green, c.blue)
+    let hue = item(text, at, false)?;
+    let saturation = item(text, hue.next, true)?;
+    let lightness = item(text, saturation.next, true)?;
+    let color = color::hsl_color(hue.value, saturation.value, lightness.value);
+    alpha(text, lightness.next, color)
 }
 
-fn plain(text: &[u8], at: Place, first: f64) -> u64
-    requires { length text.now ≤ 4096 }
-    ensures { result ≡ told_color (rgb_plain text.now at.0 first) }
+// A whole number directly before a comma or the bracket, as most of `rgb` are: there is neither a sign, a dot nor an exponent to look for.
+#[tactic(auto, unfolding(crate::specs::Told::whole_at), using(text_bytes::proofs::Parts::byte_there))]
+#[inline(always)]
+fn whole(text: &[u8], at: Place) -> Option<Read<f64>>
+    ensures { result ≡ whole_at text.now at.0 }
 {
-    let g = item(text, at);
-    let p = g.end;
-    if p.0 == 0 {
-        return 0;
+    let start = text_bytes::skip_spaces(text, at);
+    let digits = numbers::read_digits(text, start, 0);
+    let end = digits.next;
+    if start.0 >= end.0 || digits.value >= LIMIT {
+        return None;
     }
-    let b = item(text, p);
-    let q = b.end;
-    if q.0 == 0 {
-        return 0;
-    }
-    let red = floats::channel(first);
-    let green = floats::channel(g.value);
-    alpha(text, q, red, green, floats::channel(b.value))
+    let next = match text_bytes::byte_at(text, end) {
+        b',' => Place(end.0 + 1),
+        b')' => end,
+        _ => return None,
+    };
+    Some(Read {
+        value: fast_numbers::whole_value(false, digits.value),
+        next,
+    })
 }
 
-fn marked(text: &[u8], at: Place, first: f64) -> u64
-    requires { length text.now ≤ 4096 }
-    ensures { result ≡ told_color (rgb_marked text.now at.0 first) }
+// A number of a list, and the place where the next may start; with `percent` a `%` after it makes it a share of one.
+#[tactic(auto, using(crate::proofs::Items::item_whole, crate::proofs::Items::item_none, crate::proofs::Items::item_some, crate::proofs::Items::share_none, crate::proofs::Items::share_marked, crate::proofs::Items::share_plain, text_bytes::proofs::Wording::curr_ends, fast_numbers::proofs::Told::all_text))]
+#[inline(always)]
+fn item(text: &[u8], at: Place, percent: bool) -> Option<Read<f64>>
+    ensures { result ≡ told_item (if percent then parse_list_number_or_percent text.now at.0 else parse_list_number text.now at.0) }
 {
-    let g = share(text, at);
-    let p = g.end;
-    if p.0 == 0 {
-        return 0;
+    if !percent {
+        if let Some(read) = whole(text, at) {
+            return Some(read);
+        }
     }
-    let b = share(text, p);
-    let q = b.end;
-    if q.0 == 0 {
-        return 0;
-    }
-    let red = floats::channel((first / 100.0) * 255.0);
-    let green = floats::channel(g.value * 255.0);
-    alpha(text, q, red, green, floats::channel(b.value * 255.0))
-}
-
-// A number of a list, and the place where the next may start.
-fn item(text: &[u8], at: Place) -> ToldNumber
-    requires { length text.now ≤ 4096 }
-    ensures { result ≡ told_number (parse_list_number text.now at.0) }
-{
-    let n = fast_numbers::number(&text[0..], at);
+    let n = fast_numbers::number(&text[0..], at)?;
     let end = n.end;
-    if end.0 == 0 {
-        return n;
-    }
-    ToldNumber {
-        value: n.value,
-        whole: n.whole,
-        end: after_number(text, end),
-    }
-}
-
-// The same with an optional `%`: a share of one.
-fn share(text: &[u8], at: Place) -> ToldNumber
-    requires { length text.now ≤ 4096 }
-    ensures { result ≡ told_number (parse_list_number_or_percent text.now at.0) }
-{
-    let n = fast_numbers::number(&text[0..], at);
-    let end = n.end;
-    let i = end.0;
-    if i == 0 {
-        return n;
-    }
-    if text_bytes::is_curr_byte_eq(text, end, b'%') {
-        return ToldNumber {
+    if percent && text_bytes::is_curr_byte_eq(text, end, b'%') {
+        return Some(Read {
             value: n.value / 100.0,
-            whole: n.whole,
-            end: after_number(text, Place(i + 1)),
-        };
+            next: numbers::after_item(text, Place(end.0 + 1)),
+        });
     }
-    ToldNumber {
+    Some(Read {
         value: n.value,
-        whole: n.whole,
-        end: after_number(text, end),
-    }
-}
-
-// The place after spaces and one optional comma.
-fn after_number(text: &[u8], at: Place) -> Place
-    ensures { result.0 ≡ after_number text.now at.0 }
-{
-    stream::parse_list_separator(text, text_bytes::skip_spaces(text, at))
+        next: numbers::after_item(text, end),
+    })
 }
 
 // The fourth number, unless the bracket stands there, and the bracket.
-fn alpha(text: &[u8], at: Place, red: u8, green: u8, blue: u8) -> u64
-    requires { length text.now ≤ 4096 }
-    ensures { result ≡ told_color (parse_alpha text.now at.0 (rgba red green blue 255)) }
+#[tactic(auto, using(crate::proofs::Tellings::alpha_is))]
+#[inline(always)]
+fn alpha(text: &[u8], at: Place, color: Color) -> Option<Read<Color>>
+    ensures { result ≡ result_ok (parse_alpha text.now at.0 color) }
 {
     let start = text_bytes::skip_spaces(text, at);
     if text_bytes::is_curr_byte_eq(text, start, b')') {
-        return closed(start, red, green, blue, 255);
+        return closed(text, start, color);
     }
-    let n = item(text, start);
-    let p = n.end;
-    if p.0 == 0 {
-        return 0;
-    }
-    let next = text_bytes::skip_spaces(text, p);
-    if text_bytes::is_curr_byte_eq(text, next, b')') {
-        return closed(next, red, green, blue, floats::channel(n.value * 255.0));
-    }
-    0
+    let n = item(text, start, false)?;
+    let alpha = floats::channel(n.value * 255.0);
+    closed(text, n.next, Color { alpha, ..color })
 }
 
-// A colour whose bracket stands at a place.
-fn closed(at: Place, red: u8, green: u8, blue: u8, alpha: u8) -> u64
-    requires { at.0 < 4096 }
-    ensures { result ≡ told_color (C.Value (rgba red green blue alpha) (place (at.0 + 1))) }
+// The bracket, spaces before it skipped.
+#[tactic(auto, using(crate::proofs::Tellings::close_is, text_bytes::proofs::Wording::curr_ends))]
+#[inline(always)]
+fn closed(text: &[u8], at: Place, color: Color) -> Option<Read<Color>>
+    ensures { result ≡ result_ok (close_bracket text.now at.0 color) }
 {
-    let i = at.0;
-    let color = Color {
-        red,
-        green,
-        blue,
-        alpha,
-    };
-    joined(packed::color_number(color), Place(i + 1))
-}
-
-fn joined(number: u64, end: Place) -> u64
-    requires number_lt_no_color { number < no_color }
-    requires end_bound { end.0 ≤ 4096 }
-    ensures { result ≡ end.0 + number * places }
-{
-    (end.0 as u64) + number * TOLD_COLOR
+    let start = text_bytes::skip_spaces(text, at);
+    if !text_bytes::is_curr_byte_eq(text, start, b')') {
+        return None;
+    }
+    Some(Read {
+        value: color,
+        next: Place(start.0 + 1),
+    })
 }

@@ -1,4 +1,3 @@
-pub mod Plains
 pub mod Names
-pub mod Told
+pub mod Laws
 pub mod Shaded

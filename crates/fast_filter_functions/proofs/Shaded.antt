@@ -1,52 +1,42 @@
 -- A shadow that is told at once is the one that the definitions read.
 use Prim.Native.Nat.{ℕ, zero, suc, ◌+◌, ◌-◌, ◌≤◌, ◌<◌}
-use mathlib.Core.Bool.{Bool, true, false, not, cond}
+use mathlib.Core.Bool.{Bool, true, false}
 use mathlib.Core.List.{List, [], ◌∷◌}
-use mathlib.Core.Path.{◌≡◌, refl, sym, ◌∙◌}
+use mathlib.Core.Path.{◌≡◌, refl, sym, ap, ◌∙◌}
 use native.Mathlib.Nat.{add-zero}
 use native.Mathlib.Omega.{arith}
-use borrow.Author.Tests.{lt-leb, lt-ltb, ltb-true, ne_eqb, not-false}
-use lib.Dec.{ltb}
+use borrow.Author.Tests.{lt-leb, ne_eqb}
 use lib.ListN.{length, get_or, take, drop}
-use lib.Seq.{get_or-drop, paste}
-use mir.Syntax.{w64}
-use mir.Val.{Fits}
+use lib.Seq.{get_or-drop}
+use Rattle.std.specs.Prelude.{Ok, Err, Option, Some, None, if◌then◌else◌}
+use Rattle.std.specs.Result.{result_ok}
 use Rattle.text_bytes.specs.Bytes.{within, is_space, is_ascii_ident}
 use Rattle.text_bytes.specs.Moves.{place}
-use Rattle.stream.specs.Faults.{invalid_value}
-use Rattle.text_bytes.specs.Flow.{bind}
-use Rattle.stream.specs.Refusals.{number_of, is_outside_domain}
 use Rattle.text_bytes.specs.Scan.{scan}
 use Rattle.text_bytes.specs.Words.{ascii, starts_with, same, lower_of, lowered, part, is_curr_byte_eq}
-use Rattle.stream.specs.declared.Fault.{Fault}
-use Rattle.text_bytes.specs.declared.Place.{Place}
 use Rattle.text_bytes.proofs.Ahead.{scan_again}
-use Rattle.text_bytes.proofs.Ranges.{and_first, and_second, either, within_low}
 use Rattle.text_bytes.proofs.Parts.{byte_inside}
+use Rattle.text_bytes.proofs.Ranges.{either, within_low, within_ge, within_le}
 use Rattle.text_bytes.proofs.Scans.{scan_here}
-use Rattle.text_bytes.proofs.Wording.{word_fits, curr_byte}
+use Rattle.text_bytes.proofs.Wording.{curr_byte}
+use Rattle.stream.specs.Faults.{invalid_value}
+use Rattle.stream.specs.Refusals.{number_of, is_outside_domain}
+use Rattle.stream.specs.declared.Read.{Read}
 use Rattle.names.specs.Look.{named_of}
-use Rattle.names.specs.declared.Named.TheVariants as N
 use Rattle.names.proofs.Naming.{named_low}
 use Rattle.length.specs.declared.Length.{Length}
 use Rattle.color.specs.Color.{is_rgb, is_hsl, named_color, parse_word, parse_color}
 use Rattle.color.specs.declared.Color.{Color}
-use Rattle.color.specs.declared.ColorRead.{ColorRead}
-use Rattle.color.specs.declared.ColorRead.TheVariants as R
-use Rattle.filter_functions.specs.Filters.{plain_name, filter_name}
-use Rattle.filter_functions.specs.Moves.{then_tried, then_lengths}
-use Rattle.filter_functions.specs.Shadow.{shadow, try_parse_color, parse_deviation, parse_shadow_lengths, shadow_after, shadow_before, parse_drop_shadow_func}
+use Rattle.filter_functions.specs.Filters.{plain_name, filter_name, parse_step}
+use Rattle.filter_functions.specs.Shadow.{try_parse_color, parse_deviation, parse_shadow_lengths, shadow_after, shadow_before, parse_drop_shadow_func}
 use Rattle.filter_functions.specs.Values.{parse_filter_length}
-use Rattle.filter_functions.specs.declared.FilterRead.TheVariants as F
 use Rattle.filter_functions.specs.declared.FilterValue.{FilterValue}
-use Rattle.filter_functions.specs.declared.ShadowColor.{ShadowColor}
-use Rattle.filter_functions.specs.declared.ShadowColor.TheVariants as O
-use Rattle.fast_length.proofs.Told as Length
-use Rattle.records.specs.Records.{filter_row}
-use Rattle.fast_filter_functions.specs.Told.{written_if, after_bracket, is_low, is_offset, length_of, LengthsAt, are_told, shadow_of, is_shadow}
-use Rattle.fast_filter_functions.specs.declared.ToldLengths.{ToldLengths}
-use Rattle.fast_filter_functions.proofs.Names.{curr_still, written_if_told}
-use Rattle.fast_filter_functions.proofs.Told.{length_still, offset_told, offset_other, radius_offset, radius_plus}
+use Rattle.filter_functions.specs.declared.FilterValue.TheVariants as G
+use Rattle.filter_functions.specs.declared.Shadow.{Shadow}
+use Rattle.fast_length.proofs.Told.{told_ok}
+use Rattle.fast_filter_functions.specs.Told.{and_then, closed_or, colored, offset_at, radius_at, lengths_at, lengths_first, color_first, shadow_at}
+use Rattle.fast_filter_functions.proofs.Names.{curr_still, closed}
+use Rattle.fast_filter_functions.proofs.Laws.{Offset, Radius, then_some, some_is, ok_is, offset_is, radius_is}
 
 drop_first : (s : List ℕ) (i : ℕ) → get_or (drop i s) 0 0 ≡ get_or s i 0
 drop_first s i = rw (get_or-drop, add-zero) refl
@@ -88,7 +78,7 @@ module _ (w : List ℕ) (h : get_or w 0 0 < 65) where
   unfolding is_hsl
   low_hsl = simp (same_other 104 (ascii "sl") (omega arith), same_other 104 (ascii "sla") (omega arith))
 
-  low_name : named_of w ≡ N.Unknown
+  low_name : named_of w ≡ None
   low_name = sym (named_low w refl (sym (lower_low (get_or w 0 0) h)) (omega arith))
 
 -- no colour stands at such a byte that is neither a space nor `#`
@@ -102,16 +92,16 @@ module _ (s : List ℕ) (i : ℕ) (g : 36 ≤ get_or s i 0) (h : get_or s i 0 < 
       let t : is_space b ≡ false = simp (ne_eqb b 32 (λ e. omega arith), ne_eqb b 9 (λ e. omega arith), ne_eqb b 10 (λ e. omega arith), ne_eqb b 13 (λ e. omega arith)) in
       scan_here is_space s i t low_inside
 
-  low_color : parse_color s i ≡ R.Refused (invalid_value (scan is_ascii_ident s i))
-  unfolding parse_color parse_word named_color bind
+  low_color : parse_color s i ≡ Err (invalid_value (scan is_ascii_ident s i))
+  unfolding parse_color parse_word named_color
   low_color =
       let w = part s i (scan is_ascii_ident s i) in
       let k : get_or w 0 0 < 65 = part_below s i (scan is_ascii_ident s i) h in
       simp (low_still, lt-leb (length s) i low_inside, ne_eqb (get_or s i 0) 35 (λ e. omega arith), low_rgb w k, low_hsl w k, low_name w k)
 
-  low_missing : {B : Type 0} (out : Fault → B) (missing : B) (k : ShadowColor → Place → B) → then_tried out missing (try_parse_color s i) k ≡ missing
+  low_missing : try_parse_color s i ≡ Ok None
   unfolding try_parse_color is_outside_domain number_of
-  low_missing out missing k =
+  low_missing =
       let n : starts_with (ascii "currentColor") (drop i s) ≡ false =
       starts_other 99 (ascii "urrentColor") (drop i s) (λ q. omega (arith, drop_first s i)) in
       simp (low_color, n)
@@ -121,120 +111,116 @@ color_still : (s : List ℕ) (i : ℕ) → parse_color s (scan is_space s i) ≡
 unfolding parse_color
 color_still s i = rw (scan_again is_space s i) refl
 
-tried : (s : List ℕ) (i : ℕ) (c : Color) (p : Place) → parse_color s i ≡ R.Value c p → {B : Type 0} (out : Fault → B) (missing : B) (k : ShadowColor → Place → B)
-    → then_tried out missing (try_parse_color s (scan is_space s i)) k ≡ k (O.Some c) p
+tried : (s : List ℕ) (i : ℕ) (c : Read Color) → parse_color s i ≡ Ok c → try_parse_color s (scan is_space s i) ≡ Ok (Some (record { value = Some c.value; next = c.next }))
 unfolding try_parse_color
-tried s i c p e out missing k = simp (color_still s i, e)
+tried s i c e = simp (color_still s i, e)
 
 -- lengths that are told are a shadow's, from any place in the spaces before them
-lengths_told : {s : List ℕ} {i : ℕ} {l : ToldLengths} (name : ℕ) → LengthsAt s i l → are_told l ≡ true → {B : Type 0} (out : Fault → B) (k : Length → Length → Length → Place → B)
-    → then_lengths out (parse_shadow_lengths s name (scan is_space s i)) k
-    ≡ k (length_of l.dx) (length_of l.dy) (length_of l.deviation) (place (scan is_space s l.deviation.next.0))
-unfolding parse_shadow_lengths parse_filter_length parse_deviation bind
-lengths_told {s} {i} {l} name v t out k =
-    let x = l.dx in
-    let y = l.dy in
-    let z = l.deviation in
-    let tx = and_first (is_offset x) _ t in
-    let ty = and_first (is_offset y) _ (and_second (is_offset x) _ t) in
-    let tz = and_second (is_offset y) _ (and_second (is_offset x) _ t) in
-    let oz = radius_offset z tz in
-    let a = length_still s i ∙ (Length.told_length_is s i x v.dx (offset_told x tx)).is in
-    let b = length_still s x.next.0 ∙ (Length.told_length_is s x.next.0 y v.dy (offset_told y ty)).is in
-    let c = length_still s y.next.0 ∙ (Length.told_length_is s y.next.0 z v.deviation (offset_told z oz)).is in
-    simp (a, offset_other x tx, b, offset_other y ty, c, offset_other z oz, radius_plus z tz)
+lengths_read : (s : List ℕ) (i name : ℕ) (x y z : Read Length) → Offset s i x → Offset s x.next.0 y → Radius s y.next.0 z
+    → parse_shadow_lengths s name (scan is_space s i) ≡ Ok (record { value = record { dx = x.value; dy = y.value; deviation = z.value }; next = place (scan is_space s z.next.0) })
+unfolding parse_shadow_lengths parse_filter_length parse_deviation
+lengths_read s i name x y z a b d =
+    let o = d.offset in
+    simp (a.is, a.value, a.next, a.unit, b.is, b.value, b.next, b.unit, o.is, o.value, o.next, d.sign, o.unit)
 
--- what the brackets of a shadow hold
-module _ (s : List ℕ) (name i : ℕ) (l : ToldLengths) where
+record Lengths (s : List ℕ) (i name : ℕ) (c : Option Color) (r : Read Shadow) : Type 0 where
+  is : parse_shadow_lengths s name (scan is_space s i)
+      ≡ Ok (record { value = record { dx = r.value.dx; dy = r.value.dy; deviation = r.value.deviation }; next = place (scan is_space s r.next.0) })
+  color : r.value.color ≡ c
+
+lengths_told : (s : List ℕ) (i name : ℕ) (c : Option Color) (r : Read Shadow) → lengths_at s i c ≡ Some r → Lengths s i name c r
+unfolding lengths_at
+lengths_told s i name c r q =
+    let x = then_some (offset_at s i) _ r q in
+    let y = then_some (offset_at s x.0.next.0) _ r x.1.1 in
+    let z = then_some (radius_at s y.0.next.0) _ r y.1.1 in
+    rw (← some_is _ _ z.1.1)
+    (record {
+      is = lengths_read s i name x.0 y.0 z.0 (offset_is s i x.0 x.1.0) (offset_is s x.0.next.0 y.0 y.1.0) (radius_is s y.0.next.0 z.0 z.1.0);
+      color = refl;
+    })
+
+module _ (s : List ℕ) (name i : ℕ) where
+  abbrev j : ℕ
+  j = scan is_space s i
+
   -- lengths first, from a byte that begins no colour
-  module _ (v : LengthsAt s i l) (t : are_told l ≡ true) (h : is_low (get_or s i 0) ≡ true) where
-    above : 41 < get_or s i 0
-    above = ltb-true 41 (get_or s i 0) (and_first (ltb 41 (get_or s i 0)) _ h)
-
-    below : get_or s i 0 < 65
-    below = ltb-true (get_or s i 0) 65 (and_second (ltb 41 (get_or s i 0)) _ h)
-
-    begun : parse_drop_shadow_func s name (scan is_space s i) ≡ shadow_before s name (scan is_space s i)
+  module _ (low : within 42 64 (get_or s i 0) ≡ true) where
+    begun : parse_drop_shadow_func s name j ≡ shadow_before s name j
     unfolding parse_drop_shadow_func
     begun =
-        let o : is_curr_byte_eq s i 41 ≡ false = either (is_curr_byte_eq s i 41) (λ e. absurd (omega (arith, above, curr_byte s i 41 refl e))) (λ e. e) in
-        rw (low_still s i (omega (arith, above)) below) (simp (o, low_missing s i (omega (arith, above)) below))
+        let above = within_ge 42 64 (get_or s i 0) (sym low) in
+        let below = within_le 42 64 (get_or s i 0) (sym low) in
+        let o : is_curr_byte_eq s i 41 ≡ false = either (is_curr_byte_eq s i 41) (λ e. absurd (omega (arith, curr_byte s i 41 refl e))) (λ e. e) in
+        simp (low_still s i (omega arith) (omega arith), o, low_missing s i (omega arith) (omega arith))
 
-    lengths_alone : is_curr_byte_eq s l.deviation.next.0 41 ≡ true → parse_drop_shadow_func s name (scan is_space s i) ≡ F.Value (shadow_of l O.None) l.deviation.next
+    alone : (l : Read Shadow) → lengths_at s i None ≡ Some l → is_curr_byte_eq s l.next.0 41 ≡ true → shadow_before s name j ≡ Ok (record { value = G.DropShadow l.value; next = l.next })
     unfolding shadow_before
-    lengths_alone e =
-        let end = l.deviation.next.0 in
-        let b : get_or s end 0 ≡ 41 = curr_byte s end 41 refl e in
-        begun ∙ simp (lengths_told name v t F.Refused, curr_still s end 41 refl e, low_missing s end (omega arith) (omega arith))
+    alone l q e =
+        let k = lengths_told s i name None l q in
+        let b : get_or s l.next.0 0 ≡ 41 = curr_byte s l.next.0 41 refl e in
+        let v : record { color = None; dx = l.value.dx; dy = l.value.dy; deviation = l.value.deviation } ≡ l.value =
+        ap (λ (c : Option Color). record { color = c; dx = l.value.dx; dy = l.value.dy; deviation = l.value.deviation }) (sym k.color) in
+        simp (k.is, curr_still s l.next.0 41 refl e, low_missing s l.next.0 (omega arith) (omega arith))
+        (ok_is (ap (λ (u : Shadow). record { value = G.DropShadow u; next = l.next }) v))
 
-    lengths_colored : (c : Color) (p : Place) → parse_color s l.deviation.next.0 ≡ R.Value c p → parse_drop_shadow_func s name (scan is_space s i) ≡ F.Value (shadow_of l (O.Some c)) p
+    followed : (l : Read Shadow) (c : Read Color) → lengths_at s i None ≡ Some l → parse_color s l.next.0 ≡ Ok c
+        → shadow_before s name j ≡ Ok (record { value = G.DropShadow (colored l c).value; next = c.next })
     unfolding shadow_before
-    lengths_colored c p e = begun ∙ simp (lengths_told name v t F.Refused, tried s l.deviation.next.0 c p e)
+    followed l c q e = let k = lengths_told s i name None l q in simp (k.is, tried s l.next.0 c e)
+
+    first_told : (r : Read Shadow) → lengths_first s i ≡ Some r → parse_drop_shadow_func s name j ≡ Ok (record { value = G.DropShadow r.value; next = r.next })
+    unfolding lengths_first
+    first_told r q =
+        let v = then_some (lengths_at s i None) _ r q in
+        begun ∙ go v.0 v.1.0 (is_curr_byte_eq s v.0.next.0 41) refl v.1.1
+      where
+        go : (l : Read Shadow) → lengths_at s i None ≡ Some l → (t : Bool) → is_curr_byte_eq s l.next.0 41 ≡ t
+            → (if t then Some l else and_then (result_ok (parse_color s l.next.0)) (λ c. Some (colored l c))) ≡ Some r
+            → shadow_before s name j ≡ Ok (record { value = G.DropShadow r.value; next = r.next })
+        go l h true e f = rw (← some_is l r f) (alone l h e)
+        go l h false e f =
+            let c = then_some (result_ok (parse_color s l.next.0)) _ r f in
+            rw (← some_is _ _ c.1.1) (followed l c.0 h (told_ok (parse_color s l.next.0) c.0 c.1.0).1)
 
   -- a colour first
-  color_lengths : (c : Color) (p : Place) → parse_color s i ≡ R.Value c p → LengthsAt s p.0 l → are_told l ≡ true → is_curr_byte_eq s l.deviation.next.0 41 ≡ true
-      → parse_drop_shadow_func s name (scan is_space s i) ≡ F.Value (shadow_of l (O.Some c)) l.deviation.next
-  unfolding parse_drop_shadow_func shadow_after bind
-  color_lengths c p e v t f =
-      let j = scan is_space s i in
+  after : (r : Read Shadow) (c : Read Color) → parse_color s i ≡ Ok c → lengths_at s c.next.0 (Some c.value) ≡ Some r → is_curr_byte_eq s r.next.0 41 ≡ true
+      → parse_drop_shadow_func s name j ≡ Ok (record { value = G.DropShadow r.value; next = r.next })
+  unfolding parse_drop_shadow_func shadow_after
+  after r c e h f =
+      let k = lengths_told s c.next.0 name (Some c.value) r h in
       let o : is_curr_byte_eq s j 41 ≡ false =
       either (is_curr_byte_eq s j 41)
       (λ u.
       let b : get_or s j 0 ≡ 41 = curr_byte s j 41 refl u in
       let m = low_color s j (omega arith) (omega arith) in
-      let n : parse_color s j ≡ R.Value c p = color_still s i ∙ e in
+      let n : parse_color s j ≡ Ok c = color_still s i ∙ e in
       let z : ◌≡◌ {A = ℕ} 0 1 = cc in absurd (omega arith))
       (λ u. u) in
-      simp (o, tried s i c p e, lengths_told name v t F.Refused, curr_still s l.deviation.next.0 41 refl f)
+      simp (o, tried s i c e, k.is, curr_still s r.next.0 41 refl f, ← k.color)
 
--- the entries p, where a shadow v was written over o if its bracket closes at e
-shadow_written : (s : List ℕ) (at e : ℕ) (v : FilterValue) → is_shadow s at ≡ true
-    → (is_curr_byte_eq s e 41 ≡ true → parse_drop_shadow_func s at (scan is_space s (at + 12)) ≡ F.Value v (place e)) → (o : List ℕ) (k : ℕ) {p : List ℕ} {r : Bool}
-    → r ≡ ltb 0 (after_bracket s e) → p ≡ cond r (paste o k (filter_row (after_bracket s e) v) 24) o → p ≡ written_if r o k s at
+  color_told : (r : Read Shadow) → color_first s i ≡ Some r → is_curr_byte_eq s r.next.0 41 ≡ true
+      → parse_drop_shadow_func s name j ≡ Ok (record { value = G.DropShadow r.value; next = r.next })
+  unfolding color_first
+  color_told r q f =
+      let v = then_some (result_ok (parse_color s i)) _ r q in
+      after r v.0 (told_ok (parse_color s i) v.0 v.1.0).1 v.1.1 f
+
+  held : (v : Read FilterValue) → shadow_at s i ≡ Some v → is_curr_byte_eq s v.next.0 41 ≡ true → parse_drop_shadow_func s name j ≡ Ok v
+  unfolding shadow_at
+  held v q f = go (within 42 64 (get_or s i 0)) refl q
+    where
+      go : (t : Bool) → within 42 64 (get_or s i 0) ≡ t
+          → and_then (if t then lengths_first s i else color_first s i) (λ r. Some (record { value = G.DropShadow r.value; next = r.next })) ≡ Some v
+          → parse_drop_shadow_func s name j ≡ Ok v
+      go true e h =
+          let r = then_some (lengths_first s i) _ v h in
+          first_told e r.0 r.1.0 ∙ ok_is (some_is _ _ r.1.1)
+      go false e h =
+          let r = then_some (color_first s i) _ v h in
+          let k : record { value = G.DropShadow r.0.value; next = r.0.next } ≡ v = some_is _ _ r.1.1 in
+          color_told r.0 r.1.0 (rw (← k) at f) ∙ ok_is k
+
+pub shadow_told : (s : List ℕ) (at : ℕ) → starts_with (ascii "drop-shadow(") (drop at s) ≡ true → closed_or s (parse_step s at) (shadow_at s (at + 12)) ≡ parse_step s at
 unfolding filter_name plain_name same within
-shadow_written s at e v n a o k b f = written_if_told (ascii "drop-shadow") s at 12 e v refl n refl a o k refl b f
-
-module _ (s : List ℕ) (at : ℕ) (o : List ℕ) (k : ℕ) (l : ToldLengths) {p : List ℕ} {r t : Bool} where
-  pub alone_written : p ≡ cond r (paste o k (filter_row (after_bracket s l.deviation.next.0) (shadow_of l O.None)) 24) o → r ≡ ltb 0 (after_bracket s l.deviation.next.0)
-      → LengthsAt s (at + 12) l → t ≡ are_told l → not t ≡ false → is_shadow s at ≡ true → is_low (get_or s (at + 12) 0) ≡ true → p ≡ written_if r o k s at
-  alone_written f b v d y n h =
-      shadow_written s at l.deviation.next.0 (shadow_of l O.None) n (lengths_alone s at (at + 12) l v (sym d ∙ not-false t y) h) o k b f
-
-  module _ {x : ColorRead} (c : Color) (q : Place) where
-    pub colored_written : p ≡ cond r (paste o k (filter_row (after_bracket s q.0) (shadow_of l (O.Some c))) 24) o → r ≡ ltb 0 (after_bracket s q.0)
-        → x ≡ R.Value c q → x ≡ parse_color s l.deviation.next.0 → LengthsAt s (at + 12) l → t ≡ are_told l → not t ≡ false → is_shadow s at ≡ true → is_low (get_or s (at + 12) 0) ≡ true
-        → p ≡ written_if r o k s at
-    colored_written f b e g v d y n h =
-        shadow_written s at q.0 (shadow_of l (O.Some c)) n (λ z. lengths_colored s at (at + 12) l v (sym d ∙ not-false t y) h c q (sym g ∙ e)) o k b f
-
-    pub after_written : p ≡ cond r (paste o k (filter_row (after_bracket s l.deviation.next.0) (shadow_of l (O.Some c))) 24) o → r ≡ ltb 0 (after_bracket s l.deviation.next.0)
-        → x ≡ R.Value c q → x ≡ parse_color s (at + 12) → LengthsAt s q.0 l → t ≡ are_told l → not t ≡ false → is_shadow s at ≡ true → p ≡ written_if r o k s at
-    after_written f b e g v d y n =
-        shadow_written s at l.deviation.next.0 (shadow_of l (O.Some c)) n (color_lengths s at (at + 12) l c q (sym g ∙ e) v (sym d ∙ not-false t y)) o k b f
-
--- a name that stands, and a byte after it that begins no colour
-module _ (s : List ℕ) (at : ℕ) where
-  pub shadow_stands : {r : Bool} → r ≡ true → r ≡ is_shadow s at → is_shadow s at ≡ true
-  shadow_stands e q = sym q ∙ e
-
-  pub shadow_fits : is_shadow s at ≡ true → length s ≤ 4096 → Fits w64 (at + 12)
-  shadow_fits n l = word_fits 100 (ascii "rop-shadow(") s at true 12 refl (sym n) (omega arith) refl
-
-  pub low_stands : {b : ℕ} → is_low b ≡ true → b ≡ get_or s at 0 → is_low (get_or s at 0) ≡ true
-  low_stands e q = rw (← q) e
-
-pub ruleset stands = (shadow_stands, shadow_fits, low_stands)
-
--- where the bracket closes, if it does
-module _ (s : List ℕ) (i : ℕ) {next : ℕ} (q : next ≡ after_bracket s i) where
-  pub shut_nowhere : next ≡ 0 → false ≡ ltb 0 (after_bracket s i)
-  shut_nowhere e = rw (← q, e)
-
-  pub shut_there : (next ≡ 0 → ⊥) → true ≡ ltb 0 (after_bracket s i)
-  shut_there e = rw (← q) (sym (lt-ltb 0 next (omega arith)))
-
-  pub shut_row : (o : List ℕ) (k : ℕ) {p : List ℕ} (l : ToldLengths) (color : ShadowColor) {dx dy deviation : Length} → dx ≡ length_of l.dx → dy ≡ length_of l.dy → deviation ≡ length_of l.deviation
-      → p ≡ paste o k (filter_row next (shadow color dx dy deviation)) 24 → p ≡ paste o k (filter_row (after_bracket s i) (shadow_of l color)) 24
-  shut_row o k l color a b c f = rw (← q, ← a, ← b, ← c) f
-
-pub ruleset shuts = (shut_nowhere, shut_there, shut_row)
+shadow_told s at e = closed (ascii "drop-shadow") s at 12 refl e refl (shadow_at s (at + 12)) (λ v q c. held s at (at + 12) v q c)

@@ -1,76 +1,100 @@
 -- What is told at once of a filter list. Only inner contracts speak of it.
-use Rattle.std.specs.Prelude.{ℕ, ◌+◌, Bool, ◌&&◌, not, cond, List, ◌++◌, ◌≡◌, ltb, drop}
-use Rattle.std.proofs.Math.Seq.{paste}
-use Rattle.text_bytes.specs.Bytes.{is_space}
+use Rattle.std.specs.Prelude.{ℕ, ◌+◌, ◌-◌, List, ltb, get_or, drop, Float, Result, Ok, Err, Option, Some, None, if◌then◌else◌}
+use Rattle.std.specs.Result.{result_ok}
+use Rattle.text_bytes.specs.Bytes.{within, is_space, is_url_byte}
+use Rattle.text_bytes.specs.Moves.{place}
 use Rattle.text_bytes.specs.Scan.{scan}
 use Rattle.text_bytes.specs.Words.{ascii, starts_with, is_curr_byte_eq}
+use Rattle.stream.specs.declared.Fault.{Fault}
+use Rattle.stream.specs.declared.Read.{Read}
 use Rattle.floats.specs.Floats.{sign_of}
+use Rattle.numbers.specs.Moves.{Number}
+use Rattle.numbers.specs.Number.{parse_number, parse_number_or_percent}
 use Rattle.length.specs.Lengths.{parse_length}
 use Rattle.length.specs.declared.Length.{Length}
-use Rattle.filter_functions.specs.Filters.{step_of}
-use Rattle.filter_functions.specs.Shadow.{shadow}
-use Rattle.filter_functions.specs.Values.{is_percent}
+use Rattle.angle.specs.declared.AngleUnit.TheVariants as W
+use Rattle.color.specs.Color.{parse_color}
+use Rattle.color.specs.declared.Color.{Color}
+use Rattle.filter_functions.specs.Filters.{listed}
+use Rattle.filter_functions.specs.Values.{is_percent, plain_value}
 use Rattle.filter_functions.specs.declared.FilterValue.{FilterValue}
+use Rattle.filter_functions.specs.declared.FilterValue.TheVariants as G
+use Rattle.filter_functions.specs.declared.Listed.{Listed}
+use Rattle.filter_functions.specs.declared.Listed.TheVariants as I
 use Rattle.filter_functions.specs.declared.Plain.{Plain}
-use Rattle.filter_functions.specs.declared.Plain.TheVariants as P
-use Rattle.filter_functions.specs.declared.ShadowColor.{ShadowColor}
-use Rattle.fast_length.specs.Told.{told_length}
-use Rattle.fast_length.specs.declared.ToldLength.{ToldLength}
-use Rattle.records.specs.Records.{filter_record}
-use Rattle.fast_filter_functions.specs.declared.ToldLengths.{ToldLengths}
+use Rattle.filter_functions.specs.declared.Shadow.{Shadow}
+use Rattle.fast_numbers.specs.Told.{told_number}
 
--- the entries after a function that says whether it wrote the record of the step at i
-abbrev pub written_if : Bool → List ℕ → ℕ → List ℕ → ℕ → List ℕ
-written_if r out k s i = cond r (paste out k (filter_record (step_of s i)) 24) out
+-- `?` of what may be untold
+abbrev pub and_then : {A B : Type 0} → Option A → (A → Option B) → Option B
+and_then None f = None
+and_then (Some a) f = f a
 
--- the place after a closing bracket (41) and the spaces behind it, or 0
-unfoldable pub after_bracket : List ℕ → ℕ → ℕ
-after_bracket s i = cond (is_curr_byte_eq s i 41) (scan is_space s (i + 1)) 0
+-- what is told stands for x
+abbrev pub told_or : Result (Read Listed) Fault → Option (Read FilterValue) → Result (Read Listed) Fault
+told_or x None = x
+told_or x (Some r) = listed (I.Value r.value) r.next.0
 
--- the name of a plain function
-abbrev pub plain_word : Plain → List ℕ
-plain_word P.Brightness = ascii "brightness"
-plain_word P.Contrast = ascii "contrast"
-plain_word P.Grayscale = ascii "grayscale"
-plain_word P.Invert = ascii "invert"
-plain_word P.Opacity = ascii "opacity"
-plain_word P.Saturate = ascii "saturate"
-plain_word P.Sepia = ascii "sepia"
+-- and so does a value that is told up to its closing bracket (41), if that stands there
+abbrev pub closed_or : List ℕ → Result (Read Listed) Fault → Option (Read FilterValue) → Result (Read Listed) Fault
+closed_or s x None = x
+closed_or s x (Some r) = if is_curr_byte_eq s r.next.0 41 then listed (I.Value r.value) (scan is_space s (r.next.0 + 1)) else x
 
--- with its bracket
-abbrev pub opened : Plain → List ℕ
-opened f = plain_word f ++ ascii "("
+-- a length that is no percentage
+unfoldable pub offset_at : List ℕ → ℕ → Option (Read Length)
+offset_at s i =
+    and_then (result_ok (parse_length s i)) (λ r. if is_percent r.value.value.unit then None else Some (record { value = r.value.value; next = r.next }))
 
--- a length that is told and is no percentage
-abbrev pub is_offset : ToldLength → Bool
-is_offset l = ltb 0 l.next.0 && not (is_percent l.unit)
+-- nor negative
+unfoldable pub radius_at : List ℕ → ℕ → Option (Read Length)
+radius_at s i = and_then (offset_at s i) (λ r. if sign_of r.value.number then None else Some r)
 
--- such a length that is not negative
-abbrev pub is_radius : ToldLength → Bool
-is_radius l = is_offset l && not (sign_of l.number)
+unfoldable pub blur_at : List ℕ → ℕ → Option (Read FilterValue)
+blur_at s i = and_then (radius_at s i) (λ r. Some (record { value = G.Blur r.value; next = r.next }))
 
--- the length alone
-abbrev pub length_of : ToldLength → Length
-length_of l = record { number = l.number; unit = l.unit }
+-- a turn by degrees
+unfoldable pub degrees_at : List ℕ → ℕ → Option (Read FilterValue)
+degrees_at s i =
+    and_then (told_number (parse_number s i))
+    (λ n. if starts_with (ascii "deg") (drop n.end.0 s) then Some (record { value = G.HueRotate (record { number = n.value; unit = W.Degrees }); next = place (n.end.0 + 3) }) else None)
 
--- three lengths, one after the other
-pub record LengthsAt (s : List ℕ) (i : ℕ) (l : ToldLengths) : Type 0 where
-  pub dx : l.dx ≡ told_length (parse_length s i)
-  pub dy : l.dy ≡ told_length (parse_length s l.dx.next.0)
-  pub deviation : l.deviation ≡ told_length (parse_length s l.dy.next.0)
+-- a number, or the hundredth of a percentage
+abbrev pub told_value : Result (Read Number) Fault → Option (Read Float)
+told_value (Ok r) = Some (record { value = r.value.value; next = r.next })
+told_value (Err e) = None
 
--- whether a shadow may have them
-abbrev pub are_told : ToldLengths → Bool
-are_told l = is_offset l.dx && (is_offset l.dy && is_radius l.deviation)
+unfoldable pub plain_at : List ℕ → ℕ → Plain → Option (Read FilterValue)
+plain_at s i f =
+    and_then (told_value (parse_number_or_percent s i)) (λ n. if sign_of n.value then None else Some (record { value = plain_value f n.value; next = n.next }))
 
--- the shadow that has them
-abbrev pub shadow_of : ToldLengths → ShadowColor → FilterValue
-shadow_of l c = shadow c (length_of l.dx) (length_of l.dy) (length_of l.deviation)
+-- a link, the `#` before it passed
+unfoldable pub url_at : List ℕ → ℕ → Option (Read FilterValue)
+url_at s i =
+    let e = scan is_url_byte s i in
+    if ltb i e then Some (record { value = G.Url (record { start = place i; len = e - i }); next = place e }) else None
 
--- a shadow's name and bracket stand at i
-abbrev pub is_shadow : List ℕ → ℕ → Bool
-is_shadow s i = starts_with (ascii "drop-shadow(") (drop i s)
+-- a shadow's lengths, and its colour
+unfoldable pub lengths_at : List ℕ → ℕ → Option Color → Option (Read Shadow)
+lengths_at s i c =
+    and_then (offset_at s i) (λ dx.
+    and_then (offset_at s dx.next.0) (λ dy.
+    and_then (radius_at s dy.next.0) (λ deviation.
+    Some (record { value = record { color = c; dx = dx.value; dy = dy.value; deviation = deviation.value }; next = deviation.next }))))
 
--- a byte between `)` (41) and `A` (65), with which no colour begins
-abbrev pub is_low : ℕ → Bool
-is_low b = ltb 41 b && ltb b 65
+abbrev pub colored : Read Shadow → Read Color → Read Shadow
+colored r c = record { value = record { color = Some c.value; dx = r.value.dx; dy = r.value.dy; deviation = r.value.deviation }; next = c.next }
+
+-- lengths, and a colour that may follow them
+unfoldable pub lengths_first : List ℕ → ℕ → Option (Read Shadow)
+lengths_first s i =
+    and_then (lengths_at s i None) (λ r.
+    if is_curr_byte_eq s r.next.0 41 then Some r else and_then (result_ok (parse_color s r.next.0)) (λ c. Some (colored r c)))
+
+-- a colour, and the lengths after it
+unfoldable pub color_first : List ℕ → ℕ → Option (Read Shadow)
+color_first s i = and_then (result_ok (parse_color s i)) (λ c. lengths_at s c.next.0 (Some c.value))
+
+-- no colour begins with a byte between `)` (41) and `A` (65)
+unfoldable pub shadow_at : List ℕ → ℕ → Option (Read FilterValue)
+shadow_at s i =
+    and_then (if within 42 64 (get_or s i 0) then lengths_first s i else color_first s i) (λ r. Some (record { value = G.DropShadow r.value; next = r.next }))

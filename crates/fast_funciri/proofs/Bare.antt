@@ -12,9 +12,7 @@ use mir.Syntax.{w64}
 use mir.Val.{Fits}
 use Rattle.utf8.specs.Blanks.{trim_end}
 use Rattle.text_bytes.specs.Bytes.{within, is_space, is_link_byte, is_url_byte, is_other}
-use Rattle.text_bytes.specs.Moves.{place}
 use Rattle.stream.specs.Faults.{invalid_value}
-use Rattle.text_bytes.specs.Flow.{bind}
 use Rattle.text_bytes.specs.Scan.{run, scan}
 use Rattle.text_bytes.specs.Words.{is_curr_byte_eq, part}
 use Rattle.text_bytes.specs.declared.Place.{Place}
@@ -24,10 +22,11 @@ use Rattle.stream.proofs.Sames.{curr_consumed}
 use Rattle.text_bytes.proofs.Scans.{run_le, scan_narrow, scan_here}
 use Rattle.utf8.proofs.Trimming.{trim_whole}
 use Rattle.text_bytes.proofs.Wording.{curr_inside, curr_byte, curr_next}
-use Rattle.funciri.specs.Link.{is_quote, has_quote, is_link, link_at, close_link, close_quote}
-use Rattle.funciri.specs.declared.LinkRead.{LinkRead}
-use Rattle.funciri.specs.declared.LinkRead.TheVariants as L
-use Rattle.funciri.proofs.Quotes.{link_whole}
+use Rattle.funciri.specs.Link.{is_quote, has_quote, is_link, link_at, link_read, close_link, close_quote}
+use Rattle.std.specs.Prelude.{Result, Ok, Err, if◌then◌else◌}
+use Rattle.text_bytes.specs.declared.Part.{Part}
+use Rattle.stream.specs.declared.Fault.{Fault}
+use Rattle.stream.specs.declared.Read.{Read}
 use Rattle.fast_funciri.specs.Bare.{is_bare_byte}
 
 -- a bare byte is a byte of every link, no quote, and plain
@@ -69,12 +68,17 @@ no_quote (x ∷ xs) = go (is_bare_byte x) refl (no_quote xs)
     go true e ih = simp (bare_unquoted x e) ih
     go false e ih = refl
 
+link_whole : (l : List ℕ) → 0 < length l → has_quote l ≡ false → is_link l ≡ true
+unfolding is_link
+link_whole [] h e = absurd (omega arith)
+link_whole (x ∷ xs) h e = rw e refl
+
 module _ (l : List ℕ) (h : 0 < run is_bare_byte l) where
   run_length : length (take (run is_bare_byte l) l) ≡ run is_bare_byte l
   run_length = length-take-le (run is_bare_byte l) l (run_le is_bare_byte l)
 
   run_link : is_link (take (run is_bare_byte l) l) ≡ true
-  run_link = sym (link_whole (take (run is_bare_byte l) l) (λ z. omega (arith, run_length)) (sym (no_quote l)))
+  run_link = link_whole (take (run is_bare_byte l) l) (omega (arith, run_length)) (no_quote l)
 
   run_trim : trim_end (take (run is_bare_byte l) l) ≡ run is_bare_byte l
   run_trim =
@@ -113,9 +117,10 @@ bare_next s e c t {r} q h l = curr_next s e c q (and_second t r h) l
 
 -- with no quotes the bracket closes it
 pub plain_quick : (s : List ℕ) (p : Place) (e : ℕ) {r : Bool} → e ≡ scan is_bare_byte s p.0 → r ≡ is_curr_byte_eq s e 41 → (ltb p.0 e && r) ≡ true
-    → L.Link (link_at p (e - p.0)) (place (e + 1))
-    ≡ bind (scan is_url_byte s p.0) (λ end. cond (is_link (part s p.0 end)) (close_link s end (link_at p (end - p.0))) (L.Refused (invalid_value end)))
-unfolding close_link bind
+    → Ok (link_read (link_at p (e - p.0)) (e + 1))
+    ≡ (let end = scan is_url_byte s p.0 in
+    if is_link (part s p.0 end) then close_link s end (link_at p (end - p.0)) else Err (invalid_value end))
+unfolding close_link
 plain_quick s p e {r} f q t =
     let h : p.0 < e = ltb-true p.0 e (and_first (ltb p.0 e) r t) in
     let u : r ≡ true = and_second (ltb p.0 e) r t in
@@ -125,13 +130,13 @@ plain_quick s p e {r} f q t =
     simp (w, bare_link s p.0 e f h, g, curr_consumed s e 41 q u)
 
 -- in quotes the quote does, and x is what follows it
-pub quoted_quick : (s : List ℕ) (p : Place) (e c : ℕ) {r u : Bool} {x : LinkRead} → e ≡ scan is_bare_byte s p.0 → u ≡ is_quote c → r ≡ is_curr_byte_eq s e c
+pub quoted_quick : (s : List ℕ) (p : Place) (e c : ℕ) {r u : Bool} {x : Result (Read Part) Fault} → e ≡ scan is_bare_byte s p.0 → u ≡ is_quote c → r ≡ is_curr_byte_eq s e c
     → ((ltb p.0 e && u) && r) ≡ true → x ≡ close_link s (e + 1) (link_at p (e - p.0))
     → x
-    ≡ bind (scan (is_other c) s p.0) (λ end.
-    bind (trim_end (part s p.0 end)) (λ len.
-    cond (is_link (take len (part s p.0 end))) (close_quote s end c (link_at p len)) (L.Refused (invalid_value end))))
-unfolding close_quote bind
+    ≡ (let end = scan (is_other c) s p.0 in
+    let len = trim_end (part s p.0 end) in
+    if is_link (take len (part s p.0 end)) then close_quote s end c (link_at p len) else Err (invalid_value end))
+unfolding close_quote
 quoted_quick s p e c {r} {u} {x} f m q t y =
     let v : (ltb p.0 e && u) ≡ true = and_first (ltb p.0 e && u) r t in
     let h : p.0 < e = ltb-true p.0 e (and_first (ltb p.0 e) u v) in

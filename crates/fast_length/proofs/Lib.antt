@@ -1,4 +1,3 @@
 pub mod Units
 pub mod Told
-pub mod Refused
-pub mod Steps
+pub mod Edges

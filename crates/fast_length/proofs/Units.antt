@@ -3,7 +3,7 @@ use Prim.Native.Nat.{ℕ, zero, suc, ◌+◌, ◌-◌, ◌≤◌, ◌<◌}
 use mathlib.Core.Bool.{true, ◌&&◌, cond}
 use mathlib.Core.List.{List, [], ◌∷◌}
 use mathlib.Core.Logic.{⊎_elim}
-use mathlib.Core.Path.{◌≡◌, sym, ◌∙◌}
+use mathlib.Core.Path.{◌≡◌, refl, sym, ◌∙◌}
 use native.Mathlib.Nat.{add-zero}
 use native.Mathlib.Omega.{arith}
 use borrow.Author.Tests.{eqb-true, ne_eqb, leb-true, ltb-true}
@@ -13,8 +13,8 @@ use lib.Seq.{drop-cons, get_or-drop}
 use Rattle.utf8.specs.Characters.{is_ascii}
 use Rattle.text_bytes.specs.Words.{starts_with}
 use Rattle.text_bytes.proofs.Ranges.{and_true, and_first, and_second, either, lt_or_le}
-use Rattle.text_bytes.proofs.Shifts.{cond_push}
-use Rattle.length.specs.Lengths.{unit_at, unit_rest, unit_width}
+use Rattle.length.specs.Lengths.{unit_at, unit_width}
+use Rattle.length.proofs.Units.{unit_cases}
 use Rattle.length.specs.declared.LengthUnit.{LengthUnit}
 use Rattle.length.specs.declared.LengthUnit.TheVariants as U
 use Rattle.fast_numbers.proofs.Plain.{Plain, plain_here}
@@ -72,9 +72,16 @@ orders b c =
     (λ u. either (eqb b 109) (λ e. simp (eqb-true b 109 e))
     (λ v. simp (p, q, r, t, u, v)))))))
 
-pub unit_is : (s : List ℕ) (i : ℕ) {b c : ℕ} {x : LengthUnit} → b ≡ get_or s i 0 → c ≡ get_or s (i + 1) 0 → x ≡ unit_of b c → x ≡ unit_at s i
-unfolding unit_at unit_rest
-unit_is s i {b} {c} p q e = e ∙ orders b c ∙ simp (starts_one, starts_two, ← p, ← q)
+pub unit_is : (s : List ℕ) (i : ℕ) → unit_at s i ≡ unit_of (get_or s i 0) (get_or s (i + 1) 0)
+unfolding unit_at
+unit_is s i = simp (starts_one, starts_two) (sym (orders (get_or s i 0) (get_or s (i + 1) 0)))
+
+-- no unit begins with another byte
+pub unit_none : (s : List ℕ) (i : ℕ) → (get_or s i 0 ≡ 37 → ⊥) → (get_or s i 0 ≡ 112 → ⊥) → (get_or s i 0 ≡ 101 → ⊥) → (get_or s i 0 ≡ 105 → ⊥)
+    → (get_or s i 0 ≡ 99 → ⊥) → (get_or s i 0 ≡ 109 → ⊥) → unit_at s i ≡ U.None
+unit_none s i a b c d e f =
+    let b0 = get_or s i 0 in
+    unit_is s i ∙ simp (ne_eqb b0 37 a, ne_eqb b0 112 b, ne_eqb b0 101 c, ne_eqb b0 105 d, ne_eqb b0 99 e, ne_eqb b0 109 f)
 
 -- the bytes of a word
 starts_low : (w l : List ℕ) → starts_with w l ≡ true → is_ascii w ≡ true → (k : ℕ) → k < length w → get_or l k 0 < 128
@@ -85,29 +92,21 @@ starts_low (w ∷ ws) (x ∷ xs) e f zero h = omega (arith, eqb-true x w (and_fi
 starts_low (w ∷ ws) (x ∷ xs) e f (suc k) h = starts_low ws xs (and_second (eqb x w) _ e) (and_second (ltb w 128) _ f) k (omega arith)
 
 module _ (s : List ℕ) (i : ℕ) where
-  plain_none : Plain s i (i + 0)
-  plain_none = let v : Plain s i i = plain_here s i in simp add-zero v
-
-  -- a word that is tried, else y
-  plain_try : (w : List ℕ) (n y : ℕ) → is_ascii w ≡ true → length w ≡ n → Plain s i y → Plain s i (cond (starts_with w (drop i s)) (i + n) y)
-  plain_try w n y f l v =
-      either (starts_with w (drop i s))
-      (λ e.
-      let g : Plain s i (i + length w) =
+  word_plain : (w : List ℕ) → is_ascii w ≡ true → starts_with w (drop i s) ≡ true → Plain s i (i + length w)
+  word_plain w f e =
       record {
         grows = omega arith;
         bytes = λ m h q.
             let k : i + (m - i) ≡ m = omega arith in
             let x : get_or (drop i s) (m - i) 0 < 128 = starts_low w (drop i s) e f (m - i) (omega arith) in
             rw (get_or-drop, k) at x;
-      } in
-      simp (e, ← l) g)
-      (λ e. simp e v)
+      }
 
-  rest_plain : Plain s i (i + unit_width (unit_rest s i))
-  unfolding unit_rest unit_width is_ascii
-  rest_plain = simp (cond_push (λ (u : LengthUnit). i + unit_width u)) (search (plain_try, plain_none) depth 12)
+  plain_none : Plain s i (i + 0)
+  plain_none = let v : Plain s i i = plain_here s i in simp add-zero v
 
   pub unit_plain : Plain s i (i + unit_width (unit_at s i))
-  unfolding unit_at unit_width is_ascii
-  unit_plain = simp (cond_push (λ (u : LengthUnit). i + unit_width u)) (search (plain_try, rest_plain) depth 12)
+  unfolding unit_width is_ascii
+  unit_plain =
+      unit_cases (λ u. Plain s i (i + unit_width u)) s i (word_plain _ refl) (word_plain _ refl) (word_plain _ refl) (word_plain _ refl) (word_plain _ refl)
+      (word_plain _ refl) (word_plain _ refl) (word_plain _ refl) (word_plain _ refl) plain_none

@@ -11,12 +11,12 @@ use Rattle.text_bytes.specs.Words.{ascii}
 use Rattle.text_bytes.proofs.Ranges.{and_first, and_second, either}
 use Rattle.names.specs.Keywords.{Keyword, keywords}
 use Rattle.fast_names.specs.Named.{named_number}
-use Rattle.packed.specs.Numbers.{no_color}
+use Rattle.std.specs.Prelude.{Option, None}
 use Rattle.fast_names.specs.Letters.{three, short, head, tail, found, of_length, of_three, of_short, of_long}
 use Rattle.names.proofs.Tables.{holds_true}
 
 -- an arm's number k is the constant m
-module _ {k m r : ℕ} (e : k ≡ m) where
+module _ {k m : ℕ} {r : Option ℕ} (e : k ≡ m) where
   pub three_at : r ≡ of_three m → r ≡ of_three k
   three_at h = rw e h
 
@@ -31,15 +31,15 @@ module _ {k m r : ℕ} (e : k ≡ m) where
   long_both n i h = rw (e, i) h
 
 -- k is none of some numbers, the last told first: what the last arm knows
-abbrev pub None : ℕ → List ℕ → Type 0
-None k [] = Unit
-None k (m ∷ ms) = None k ms × (k ≡ m → ⊥)
+abbrev pub NoneOf : ℕ → List ℕ → Type 0
+NoneOf k [] = Unit
+NoneOf k (m ∷ ms) = NoneOf k ms × (k ≡ m → ⊥)
 
 abbrev pub is_one_of : List ℕ → ℕ → Bool
 is_one_of [] x = false
 is_one_of (m ∷ ms) x = eqb x m || is_one_of ms x
 
-pub none_of : {k : ℕ} (ms : List ℕ) → None k ms → (x : ℕ) → is_one_of ms x ≡ true → k ≡ x → ⊥
+pub none_of : {k : ℕ} (ms : List ℕ) → NoneOf k ms → (x : ℕ) → is_one_of ms x ≡ true → k ≡ x → ⊥
 none_of [] u x h e = let z : ◌≡◌ {A = ℕ} 0 1 = cc in omega arith
 none_of (m ∷ ms) u x h e = either (eqb x m) (λ q. u.1 (e ∙ eqb-true x m q)) (λ q. none_of ms u.0 x (simp q at h) e)
 
@@ -63,26 +63,26 @@ module _ (f : List ℕ → ℕ) (n : ℕ) where
   all_told ms (e ∷ es) = is_told ms e.name && all_told ms es
 
   -- a test that fails at each of the numbers that are told
-  module _ {k : ℕ} (t : List ℕ → Bool) (g : (a : List ℕ) → (k ≡ f a → ⊥) → t a ≡ false) (ms : List ℕ) (u : None k ms) where
+  module _ {k : ℕ} (t : List ℕ → Bool) (g : (a : List ℕ) → (k ≡ f a → ⊥) → t a ≡ false) (ms : List ℕ) (u : NoneOf k ms) where
     fails : (a : List ℕ) → is_told ms a ≡ true → (eqb (length a) n && t a) ≡ false
     fails a h =
         either (eqb (length a) n) (λ e. rw (e, g a (none_of ms u (f a) (simp e at h))) refl) (λ e. simp e)
 
-    found_none : (es : List Keyword) → all_told ms es ≡ true → found (λ a. eqb (length a) n && t a) es ≡ no_color
+    found_none : (es : List Keyword) → all_told ms es ≡ true → found (λ a. eqb (length a) n && t a) es ≡ None
     unfolding found named_number
     found_none [] h = simp (fails (ascii "transparent") h)
     found_none (e ∷ es) h =
         simp (fails e.name (and_first (is_told ms e.name) (all_told ms es) h)) (found_none es (and_second (is_told ms e.name) (all_told ms es) h))
 
-pub three_none : (k : ℕ) → None k (numbers three 3) → T (all_told three 3 (numbers three 3) keywords) → no_color ≡ of_three k
+pub three_none : (k : ℕ) → NoneOf k (numbers three 3) → T (all_told three 3 (numbers three 3) keywords) → None ≡ of_three k
 unfolding of_three of_length
 three_none k u h = sym (found_none three 3 (λ a. eqb k (three a)) (λ a z. ne_eqb _ _ z) (numbers three 3) u keywords (sym (holds_true _ h)))
 
-pub short_none : (n k : ℕ) → None k (numbers short n) → T (all_told short n (numbers short n) keywords) → no_color ≡ of_short n k
+pub short_none : (n k : ℕ) → NoneOf k (numbers short n) → T (all_told short n (numbers short n) keywords) → None ≡ of_short n k
 unfolding of_short of_length
 short_none n k u h = sym (found_none short n (λ a. eqb k (short a)) (λ a z. ne_eqb _ _ z) (numbers short n) u keywords (sym (holds_true _ h)))
 
-pub long_none : (n k l : ℕ) → None k (numbers head n) → T (all_told head n (numbers head n) keywords) → no_color ≡ of_long n k l
+pub long_none : (n k l : ℕ) → NoneOf k (numbers head n) → T (all_told head n (numbers head n) keywords) → None ≡ of_long n k l
 unfolding of_long of_length
 long_none n k l u h =
     sym (found_none head n (λ a. eqb k (head a) && eqb l (tail a)) (λ a z. rw (ne_eqb _ _ z)) (numbers head n) u keywords (sym (holds_true _ h)))

@@ -1,4 +1,4 @@
 pub mod Steps
-pub mod Told
 pub mod Plain
+pub mod Told
 pub mod Alone

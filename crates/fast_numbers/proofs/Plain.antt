@@ -12,13 +12,15 @@ use lib.Seq.{get_or-drop}
 use Rattle.text_bytes.specs.Bytes.{is_digit, is_sign, is_space}
 use Rattle.utf8.specs.Characters.{is_ascii}
 use Rattle.text_bytes.specs.Scan.{scan}
-use Rattle.text_bytes.specs.declared.Place.{Place}
 use Rattle.text_bytes.proofs.Ahead.{run_bytes}
 use Rattle.text_bytes.proofs.Ranges.{either, le_or_lt, within_le}
 use Rattle.numbers.specs.Number.{after_sign, mantissa_at, mantissa_dot, exponent_at, exponent_from, parse_number}
-use Rattle.numbers.specs.declared.Number.{Number}
-use Rattle.numbers.specs.declared.NumberRead.TheVariants as N
-use Rattle.numbers.proofs.Values.{is_e, is_dot, all_values, values_known, number_values}
+use Rattle.numbers.specs.Moves.{Number}
+use Rattle.numbers.proofs.Values.{is_e, is_dot, number_holds}
+use Rattle.stream.specs.declared.Read.{Read}
+use Rattle.stream.proofs.Binds.{at_ok}
+use Rattle.stream.proofs.Stretches.{LiesFrom}
+use Rattle.std.specs.Prelude.{Ok, MatchResult}
 
 -- from i to j a reader went forward and passed ASCII alone
 pub record Plain (s : List ℕ) (i j : ℕ) : Type 0 where
@@ -94,15 +96,15 @@ module _ (s : List ℕ) where
       (λ f. simp (e, f) (plain_trans (plain_one s at is_e low_e e) (plain_trans (sign_plain (at + 1)) (plain_scan s _ is_digit low_digit)))))
       (λ e. simp e (plain_here s at))
 
-  number_all : (i : ℕ) → all_values (λ n p. Plain s i p.0) (parse_number s i)
-  number_all i =
+  -- of a number that is read at i, spaces before it included
+  number_plain : (i : ℕ) → MatchResult (parse_number s i) (λ r. Plain s i r.next.0) (LiesFrom s i)
+  number_plain i =
       let start = scan is_space s i in
-      number_values s i (λ n p. Plain s i p.0)
+      number_holds s i (λ r. Plain s i r.next.0)
       (λ l j. plain_trans (plain_scan s i is_space low_space) (plain_trans (sign_plain start) (plain_trans (mantissa_plain (after_sign s start)) (exponent_plain _))))
 
-  -- of a number that is read at i, spaces before it included
-  pub number_plain : (i : ℕ) (n : Number) (p : Place) → parse_number s i ≡ N.Value n p → Plain s i p.0
-  number_plain i n p e = values_known (λ n p. Plain s i p.0) (parse_number s i) n p (number_all i) e
+  pub plain_known : (i : ℕ) (r : Read Number) → parse_number s i ≡ Ok r → Plain s i r.next.0
+  plain_known i r e = at_ok (λ r. Plain s i r.next.0) (LiesFrom s i) (parse_number s i) r (number_plain i) e
 
 -- a text of which no byte is left
 pub plain_text : (s : List ℕ) (j : ℕ) → Plain s 0 j → length s ≤ j → is_ascii s ≡ true

@@ -1,16 +1,10 @@
 -- A number without its refusal: what the plain reader read, or that it read none.
-use Rattle.std.specs.Prelude.{false}
-use Rattle.text_bytes.specs.Moves.{place}
-use Rattle.floats.specs.Floats.{d0}
-use Rattle.numbers.specs.declared.NumberRead.{NumberRead}
-use Rattle.numbers.specs.declared.NumberRead.TheVariants as N
-use Rattle.fast_numbers.specs.declared.ToldNumber.{ToldNumber}
+use Rattle.std.specs.Prelude.{Result, Ok, Err, Option, Some, None}
+use Rattle.stream.specs.declared.Fault.{Fault}
+use Rattle.stream.specs.declared.Read.{Read}
+use Rattle.numbers.specs.Moves.{Number}
 
--- the place 0 is where no number ends
-abbrev pub no_number : ToldNumber
-no_number = record { value = d0; whole = false; end = place 0 }
-
--- its value, how it was written, and where its text ends
-unfoldable pub told_number : NumberRead → ToldNumber
-told_number (N.Value n p) = record { value = n.value; whole = n.whole; end = p }
-told_number (N.Refused e) = no_number
+-- its value, how it was written, and where its text ends and reading goes on
+unfoldable pub told_number : Result (Read Number) Fault → Option Number
+told_number (Ok r) = Some (record { value = r.value.value; whole = r.value.whole; end = r.next })
+told_number (Err e) = None

@@ -1,76 +1,58 @@
 -- A text that is no link: a keyword, a colour, or no paint.
-use Prim.Native.Nat.{ℕ, suc, ◌+◌, ◌-◌, ◌*◌, ◌/◌, ◌%◌, ◌≤◌, ◌<◌}
-use mathlib.Core.Bool.{Bool, true, false, ◌||◌, cond}
+use Prim.Native.Nat.{ℕ, suc, ◌+◌, ◌-◌, ◌*◌, ◌/◌, ◌%◌, ◌<◌}
+use mathlib.Core.Bool.{true, false, ◌||◌}
 use mathlib.Core.List.{List, [], ◌∷◌}
-use mathlib.Core.Path.{◌≡◌, refl, sym, ap, ◌∙◌}
+use mathlib.Core.Path.{◌≡◌, refl, ap}
 use native.Mathlib.Omega.{arith}
 use borrow.Author.Tests.{lt-ltb, le-ltb}
-use lib.Dec.{eqb, ltb}
+use lib.Dec.{eqb, leb, ltb}
 use lib.ListN.{length}
+use Rattle.std.specs.Prelude.{Result, Ok, Err, Option, Some, None, ⊤, if◌then◌else◌}
 use Rattle.text_bytes.specs.Bytes.{within}
-use Rattle.utf8.specs.Characters.{keeps, row_of, len_at, char_len, walk, utf8_of}
+use Rattle.text_bytes.specs.Flow.{◌>>=◌}
 use Rattle.text_bytes.specs.Moves.{place}
-use Rattle.stream.specs.Faults.{invalid_value}
-use Rattle.stream.specs.Refusals.{number_of, refusal_of, is_outside_domain, admit_utf8, admit_text, then_admitted}
-use Rattle.text_bytes.specs.declared.Place.{Place}
-use Rattle.stream.specs.declared.Fault.{Fault}
-use Rattle.stream.specs.declared.Refusal.{Refusal}
 use Rattle.text_bytes.specs.Words.{ascii, same, starts_with, is_curr_byte_eq}
-use Rattle.stream.specs.declared.Admission.{Admission}
-use Rattle.stream.specs.declared.Admission.TheVariants as M
-use Rattle.stream.proofs.Edges.{admitted_small, outside_is}
-use Rattle.stream.proofs.Stretches.{LiesAt}
-use Rattle.color.proofs.Stretches.{text_lies}
+use Rattle.text_bytes.specs.declared.Place.{Place}
 use Rattle.text_bytes.proofs.Ranges.{either}
 use Rattle.text_bytes.proofs.Wording.{same_eq}
+use Rattle.utf8.specs.Characters.{keeps, row_of, len_at, char_len, walk, utf8_of}
+use Rattle.stream.specs.Refusals.{number_of, reason_number, empty_refusal, refusal_of, at_edge, is_outside_domain, admit_utf8, admit_text}
+use Rattle.stream.specs.declared.Fault.{Fault}
+use Rattle.stream.specs.declared.Read.{Read}
+use Rattle.stream.specs.declared.Reason.TheVariants as R
+use Rattle.stream.specs.declared.Refusal.{Refusal}
+use Rattle.stream.specs.declared.Trouble.TheVariants as T
+use Rattle.stream.proofs.Binds.{at_ok}
+use Rattle.stream.proofs.Edges.{admitted_small, past_three}
 use Rattle.color.specs.Answer as color
 use Rattle.color.specs.Color.{parse_color_text}
-use Rattle.color.specs.Moves.{then_color}
-use Rattle.color.specs.declared.ColorAnswer.{ColorAnswer}
-use Rattle.color.specs.declared.ColorAnswer.TheVariants as C
-use Rattle.color.specs.declared.ColorRead.{ColorRead}
-use Rattle.color.specs.declared.ColorRead.TheVariants as K
-use Rattle.paint.specs.Moves.{move_paint, then_paint_read}
-use Rattle.paint.specs.Reading.{parse_plain, parse_paint}
+use Rattle.color.specs.declared.Color.{Color}
+use Rattle.color.proofs.Stretches.{text_lies}
+use Rattle.paint.specs.Answers.{told_in, parse_trimmed}
+use Rattle.paint.specs.Moves.{move_paint}
+use Rattle.paint.specs.Reading.{at_start, on_fault, plain_fault, parse_plain, parse_paint}
+use Rattle.paint.specs.declared.Paint.{Paint}
 use Rattle.paint.specs.declared.Paint.TheVariants as P
-use Rattle.paint.specs.declared.PaintRead.TheVariants as R
-use Rattle.packed.specs.Numbers.{no_color, no_paint, places, colors, fallbacks, fallback_number, paint_number, stretch_start, refusal_number, color_or}
-use Rattle.packed.proofs.Decoding.{number_back, color_told, color_refused, start_near}
-use Rattle.fast_color.proofs.Empty.{fault_within, admit_low, admit_near}
-use Rattle.fast_paint.specs.Told.{or_told, keyword_of, fault_number, read_number, inner_number, kept, uncolored, with_color}
-use Rattle.fast_paint.proofs.Tells.{right, fault_number_is}
+use Rattle.packed.specs.Fits.{Bytes}
+use Rattle.packed.specs.Numbers.{no_color, places, color_number, paint_number, stretch_start, refusal_number, color_or}
+use Rattle.packed.proofs.Channels.{text_bytes}
+use Rattle.packed.proofs.Decoding.{color_back}
+use Rattle.packed.proofs.Digits.{color_below}
+use Rattle.fast_color.specs.Told.{told_or}
+use Rattle.fast_paint.specs.Told.{keyword_of, uncolored, told_color, told_plain, numbered}
 
--- what the number of a colour's text tells
-module _ (t : List ℕ) (v : ℕ) (q : v ≡ color_or (color.from_str t)) where
-  pub with_color_is : (n : ℕ) → v < no_color → n + (3 * fallbacks + v * colors) ≡ with_color n (color.from_str t)
-  unfolding with_color fallback_number
-  with_color_is n h = rw (← color_told t v q h) (simp (number_back v h))
+-- what a trimmed text reads as, with `by` bytes trimmed before it
+unfoldable pub inner : ℕ → List ℕ → Result Paint Refusal
+inner by t = do
+  _ ← admit_text t
+  paint ← parse_trimmed t
+  Ok (move_paint by paint)
 
-  pub with_none : (n : ℕ) → no_color ≤ v → no_paint + (v - no_color) ≡ with_color n (color.from_str t)
-  unfolding with_color
-  with_none n h =
-      let r = color_refused t v q h in
-      let e : v - no_color ≡ refusal_number r.0 = omega (arith, r.1.1) in
-      rw (r.1.0, e) refl
+-- x is what is told of a, or None
+abbrev pub Right : Option (Result ℕ Place) → Result Paint Refusal → Type 0
+Right x a = told_or x (numbered a) ≡ numbered a
 
--- a keyword
-keyword_word : (by : ℕ) (t w : List ℕ) → same t w ≡ true → keyword_of w ≡ inner_number by w → keyword_of t ≡ inner_number by t
-keyword_word by t w e q = rw (same_eq t w e) q
-
-keyword_is : (by : ℕ) (t : List ℕ) → 0 < keyword_of t → keyword_of t ≡ inner_number by t
-unfolding keyword_of inner_number read_number parse_paint move_paint paint_number admit_text admit_utf8 utf8_of walk char_len len_at row_of keeps within same
-keyword_is by t h =
-    either (same t (ascii "none")) (λ e. keyword_word by t (ascii "none") e refl)
-    (λ a. either (same t (ascii "inherit")) (λ e. keyword_word by t (ascii "inherit") e refl)
-    (λ b. either (same t (ascii "currentColor")) (λ e. keyword_word by t (ascii "currentColor") e refl)
-    (λ c. either (same t (ascii "context-fill")) (λ e. keyword_word by t (ascii "context-fill") e refl)
-    (λ d. either (same t (ascii "context-stroke")) (λ e. keyword_word by t (ascii "context-stroke") e refl)
-    (λ e. absurd (omega (arith, simp (a, b, c, d, e) at h)))))))
-
-pub keyword_told : (by : ℕ) (t : List ℕ) {k : ℕ} → k ≡ keyword_of t → 0 < k → or_told k (inner_number by t) ≡ inner_number by t
-keyword_told by t {k} q h = right k (inner_number by t) (q ∙ keyword_is by t (rw q at h))
-
--- a text that is no keyword and no link is a colour, or none
+-- no other text than a link begins with its first letter
 curr_starts : (t : List ℕ) → is_curr_byte_eq t 0 117 ≡ false → starts_with (ascii "url(") t ≡ false
 unfolding is_curr_byte_eq starts_with
 curr_starts [] e = refl
@@ -78,86 +60,61 @@ curr_starts (x ∷ xs) e =
     let f : eqb x 117 ≡ false = simp (lt-ltb 0 (suc (length xs)) (omega arith)) at e in
     simp f
 
-no_word : (a b c d e : Bool) → ◌≡◌ {A = ℕ} (cond a 1 (cond b 2 (cond c 3 (cond d 4 (cond e 5 0))))) 0
-    → (a ≡ false) × (b ≡ false) × (c ≡ false) × (d ≡ false) × (e ≡ false)
-no_word true b c d e q = absurd (omega arith)
-no_word false true c d e q = absurd (omega arith)
-no_word false false true d e q = absurd (omega arith)
-no_word false false false true e q = absurd (omega arith)
-no_word false false false false true q = absurd (omega arith)
-no_word false false false false false q = (refl, refl, refl, refl, refl)
-
-plain_paint : (t : List ℕ) → keyword_of t ≡ 0 → is_curr_byte_eq t 0 117 ≡ false → parse_paint t ≡ parse_plain t
-unfolding keyword_of parse_paint
-plain_paint t q e =
-    let w = no_word (same t (ascii "none")) (same t (ascii "inherit")) (same t (ascii "currentColor")) (same t (ascii "context-fill")) (same t (ascii "context-stroke")) q in
-    simp (w.0, w.1, w.2, w.3, w.4, curr_starts t e)
-
-abbrev shown : ColorAnswer → ℕ
-shown (C.Value c) = paint_number (P.Color c)
-shown (C.Refused e) = uncolored (refusal_number e)
-
 -- the parts of a refusal's number
-parts_back : (n i : ℕ) → i < places → ((n * places + i) / places ≡ n) × ((n * places + i) % places ≡ i)
-parts_back n i h = (omega arith, omega arith)
-
-fault_shown : (e : Fault) {n : ℕ} → n ≤ 4096 → LiesAt n e → uncolored (fault_number e) ≡ no_paint + fault_number (cond (is_outside_domain e) e (invalid_value e.at.0))
-unfolding uncolored number_of
-fault_shown e m v =
-    let n = number_of e.trouble in
-    let w = parts_back n e.from.0 (omega (arith, v.lies.ordered, v.lies.inside)) in
-    let l : ltb n 4 ≡ false = le-ltb n 4 (omega (arith, (fault_within e.trouble).low)) in
-    either (eqb n 10 || (eqb n 23 || eqb n 24)) (λ f. simp (w.0, l, outside_is e, f)) (λ f. simp (w.0, w.1, l, outside_is e, f) (ap (λ (p : Place). no_paint + (5 * places + p.0)) v.start))
-
-barred_shown : (e : Refusal) → e.number < 3 → e.from.0 < places → uncolored (refusal_number e) ≡ no_paint + refusal_number e
+uncolored_is : (n i : ℕ) → i < places → uncolored (no_color + (n * places + i) - no_color) ≡ (if leb n 3 || (eqb n 10 || (eqb n 23 || eqb n 24)) then None else Some (place i))
 unfolding uncolored
-barred_shown e h k = simp ((parts_back e.number (stretch_start e) (start_near e k)).0, lt-ltb e.number 4 (omega arith))
+uncolored_is n i h =
+    let z : no_color + (n * places + i) - no_color ≡ n * places + i = omega arith in
+    let a : (n * places + i) / places ≡ n = omega arith in
+    let b : (n * places + i) % places ≡ i = omega arith in
+    simp (z, a, b)
 
-plain_inner : (by : ℕ) (t : List ℕ) → parse_paint t ≡ parse_plain t → shown (color.from_str t) ≡ inner_number by t
-unfolding inner_number read_number parse_plain move_paint color.from_str
-plain_inner by t w = rw w (go (admit_text t) refl (parse_color_text t) refl)
+-- a text that may not be read is refused by 1 or 2
+barred : (t : List ℕ) (e : Refusal) → admit_text t ≡ Err e → uncolored (no_color + refusal_number e - no_color) ≡ None
+unfolding admit_text admit_utf8 uncolored stretch_start reason_number
+barred t e q = either (leb (length t) 4096) (λ h. go (utf8_of t) (simp h at q)) (λ h. let z = err (simp h at q) in rw (← z) refl)
   where
-    go : (x : Admission) → admit_text t ≡ x → (r : ColorRead) → parse_color_text t ≡ r
-        → shown (then_admitted C.Refused x (then_color (λ e. C.Refused (refusal_of t e)) r (λ c p. C.Value c)))
-        ≡ then_admitted (λ e. no_paint + refusal_number e) x
-        (then_paint_read (λ e b. no_paint + fault_number e)
-        (then_color (λ e. cond (is_outside_domain e) (R.Refused e (place 0)) (R.Refused (invalid_value e.at.0) (place 0))) r (λ c p. R.Value (P.Color c)))
-        (λ v. paint_number (move_paint by v)))
-    go M.Admitted k (K.Value c p) q = refl
-    go M.Admitted k (K.Refused e) q = ap uncolored (fault_number_is t e) ∙ fault_shown e (admitted_small t refl k) (text_lies t e q) ∙ either (is_outside_domain e) (λ f. simp f) (λ f. simp f)
-    go (M.Refused e) k r q = barred_shown e (admit_low t e k) (admit_near t e k)
+    err : {x : Refusal} → ◌≡◌ {A = Result (Unit {0}) Refusal} (Err x) (Err e) → x ≡ e
+    err h = cc
 
--- b and k are what the tests of the first byte and of the keywords answered, v is the colour's number
-module _ (by : ℕ) (t : List ℕ) (v : ℕ) {b : Bool} {k : ℕ} (u : b ≡ is_curr_byte_eq t 0 117) (z : b ≡ false) (w : k ≡ keyword_of t) (s : k ≤ 0) (q : v ≡ color_or (color.from_str t)) where
-  inner_is : shown (color.from_str t) ≡ inner_number by t
-  inner_is = plain_inner by t (plain_paint t (omega arith) (sym u ∙ z))
+    go : (u : Result (Unit {0}) Place) → admit_utf8 u ≡ Err e → uncolored (no_color + refusal_number e - no_color) ≡ None
+    go (Ok u) h = let z : ◌≡◌ {A = ℕ} 0 1 = cc in absurd (omega arith)
+    go (Err p) h = let z = err h in rw (← z) refl
 
-  pub inner_color : v < no_color → or_told (6 + v * colors) (inner_number by t) ≡ inner_number by t
-  unfolding paint_number
-  inner_color h =
-      let x : 6 + v * colors ≡ shown (color.from_str t) = rw (← color_told t v q h) (simp (number_back v h)) in
-      right (6 + v * colors) (inner_number by t) (x ∙ inner_is)
+abbrev color_of : Result (Unit {0}) Refusal → List ℕ → Result (Read Color) Fault → Result Color Refusal
+color_of x t r = x >>= (λ _. at_edge t r >>= (λ (d : Read Color). Ok d.value))
 
-  pub inner_none : {r : ℕ} → no_color ≤ v → r ≡ uncolored (v - no_color) → or_told r (inner_number by t) ≡ inner_number by t
-  inner_none {r} h f =
-      let g = color_refused t v q h in
-      let e : v - no_color ≡ refusal_number g.0 = omega (arith, g.1.1) in
-      let x : r ≡ shown (color.from_str t) = rw (g.1.0, ← e) f in
-      right r (inner_number by t) (x ∙ inner_is)
+abbrev paint_of : ℕ → Result (Unit {0}) Refusal → List ℕ → Result (Read Color) Fault → Result Paint Refusal
+paint_of by x t r = x >>= (λ _. told_in t (on_fault (λ e. at_start (plain_fault e)) r >>= (λ (d : Read Color). Ok (P.Color d.value))) >>= (λ p. Ok (move_paint by p)))
 
--- the refusals that are told are few
-pub refusal_few : (v : ℕ) → v < no_color + 32 * places → no_color ≤ v → v - no_color < 32 * places
-refusal_few v h l = omega arith
+module _ (by : ℕ) (t : List ℕ) where
+  color_go : (x : Result (Unit {0}) Refusal) → admit_text t ≡ x → (r : Result (Read Color) Fault) → parse_color_text t ≡ r → Right (told_color (color_or (color_of x t r))) (paint_of by x t r)
+  unfolding color_or numbered told_or move_paint refusal_of stretch_start plain_fault is_outside_domain reason_number
+  color_go (Ok u) k (Ok d) q =
+      let b : Bytes d.value = at_ok (λ (c : Read Color). Bytes c.value) (λ _. ⊤) (parse_color_text t) d (text_bytes t) q in
+      simp (lt-ltb (color_number d.value) no_color (color_below d.value b), color_back d.value b)
+  color_go (Ok u) k (Err e) q =
+      let n = number_of e.trouble in
+      let v = text_lies t e q in
+      let i : e.from.0 < places = omega (arith, v.lies.ordered, v.lies.inside, admitted_small t k) in
+      let l : leb n 3 ≡ false = past_three e.trouble in
+      let m : ltb (no_color + (n * places + e.from.0)) no_color ≡ false = le-ltb (no_color + (n * places + e.from.0)) no_color (omega arith) in
+      either (eqb n 10 || (eqb n 23 || eqb n 24))
+      (λ h. simp (l, m, uncolored_is n e.from.0 i, h))
+      (λ h. simp (l, m, uncolored_is n e.from.0 i, h) (ap (λ (p : Place). Err (empty_refusal (R.Unread T.InvalidValue) p.0)) v.start))
+  color_go (Err f) k r q =
+      let m : ltb (no_color + refusal_number f) no_color ≡ false = le-ltb (no_color + refusal_number f) no_color (omega arith) in
+      simp (m, barred t f k)
 
-module _ (n : ℕ) where
-  pub kept_number : kept (n / places) ≡ true → no_paint + n ≡ uncolored n
-  unfolding uncolored
-  kept_number h = simp h
+  word_right : (w : List ℕ) → same t w ≡ true → Right (told_plain w) (inner by w) → Right (told_plain t) (inner by t)
+  word_right w e q = rw (same_eq t w e) q
 
-  pub other_number : kept (n / places) ≡ false → no_paint + 5 * places + n % places ≡ uncolored n
-  unfolding uncolored
-  other_number h = simp h (omega arith)
-
-pub ruleset uncoloring = (kept_number, other_number)
-
-pub ruleset colored = (with_color_is, with_none, keyword_told, inner_color, inner_none, refusal_few)
+  pub plain_right : is_curr_byte_eq t 0 117 ≡ false → Right (told_plain t) (inner by t)
+  unfolding told_plain keyword_of inner numbered told_or parse_trimmed parse_paint parse_plain move_paint paint_number color.from_str admit_text admit_utf8 utf8_of walk char_len len_at row_of keeps within same
+  plain_right u =
+      either (same t (ascii "none")) (λ e. word_right (ascii "none") e refl)
+      (λ a. either (same t (ascii "inherit")) (λ e. word_right (ascii "inherit") e refl)
+      (λ b. either (same t (ascii "currentColor")) (λ e. word_right (ascii "currentColor") e refl)
+      (λ c. either (same t (ascii "context-fill")) (λ e. word_right (ascii "context-fill") e refl)
+      (λ d. either (same t (ascii "context-stroke")) (λ e. word_right (ascii "context-stroke") e refl)
+      (λ e. simp (a, b, c, d, e, curr_starts t u) (color_go (admit_text t) refl (parse_color_text t) refl))))))

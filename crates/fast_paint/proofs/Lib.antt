@@ -1,7 +1,7 @@
-pub mod Tells
 pub mod Admits
-pub mod Colors
 pub mod Links
+pub mod Colors
 pub mod Trims
-pub mod Answers
+pub mod Texts
+pub mod Visible
 pub mod Numbers

@@ -1,66 +1,199 @@
--- A link that is told, and what follows it.
-use Prim.Native.Nat.{ℕ, zero, suc, ◌+◌, ◌-◌, ◌*◌, ◌≤◌, ◌<◌}
-use mathlib.Core.Bool.{Bool, true, false, ◌&&◌, cond}
+-- A link that is told, and its fallback, are what the plain reader reads.
+use Prim.Native.Nat.{ℕ, zero, suc, ◌+◌, ◌-◌, ◌≤◌, ◌<◌}
+use mathlib.Core.Bool.{true, false, ◌&&◌}
 use mathlib.Core.List.{List, [], ◌∷◌, ◌++◌}
 use mathlib.Core.Logic.{⊎_elim}
 use mathlib.Core.Path.{◌≡◌, refl, sym, ap, ◌∙◌}
 use native.Mathlib.Omega.{arith}
-use borrow.Author.Tests.{eqb-true, ltb-true, le-leb, lt-leb}
-use lib.Dec.{eqb, ltb, leb}
-use lib.ListN.{length, get_or, take, drop}
-use lib.Seq.{take_all, drop-cons}
-use mir.Syntax.{w64}
-use mir.Val.{Fits}
-use Rattle.utf8.specs.Blanks.{trim_end}
+use borrow.Author.Tests.{eq-eqb, lt-leb, lt-ltb}
+use lib.Dec.{eqb, ltb}
+use lib.ListN.{length, get_or, take, drop, length-append}
+use lib.Seq.{get_or-drop}
+use Rattle.std.specs.Prelude.{Result, Ok, Err, Some, None, if◌then◌else◌}
 use Rattle.text_bytes.specs.Bytes.{within, is_space, is_other}
-use Rattle.utf8.specs.Characters.{keeps, row_of, len_at, char_len, walk, utf8_of}
 use Rattle.text_bytes.specs.Moves.{place}
-use Rattle.stream.specs.Faults.{invalid_value, consume_byte, consume_string}
-use Rattle.text_bytes.specs.Flow.{bind}
-use Rattle.stream.specs.Refusals.{refusal_of, admit_utf8, admit_text, then_admitted}
 use Rattle.text_bytes.specs.Scan.{run, scan}
 use Rattle.text_bytes.specs.Words.{ascii, same, starts_with, is_curr_byte_eq, part}
-use Rattle.stream.specs.declared.Admission.{Admission}
-use Rattle.stream.specs.declared.Admission.TheVariants as M
 use Rattle.text_bytes.specs.declared.Part.{Part}
-use Rattle.utf8.specs.declared.Utf8.TheVariants.{WellFormed}
-use Rattle.stream.proofs.Edges.{admit_good}
+use Rattle.text_bytes.proofs.Parts.{byte_inside}
 use Rattle.text_bytes.proofs.Ranges.{and_first, and_second, either, lt_or_le}
-use Rattle.text_bytes.proofs.Parts.{rest_part, byte_inside}
+use Rattle.text_bytes.proofs.Scans.{run_inside, scan_here}
+use Rattle.text_bytes.proofs.Wording.{same_eq, begins_with, starts_first}
+use Rattle.utf8.specs.Blanks.{trim_end}
+use Rattle.utf8.specs.Characters.{keeps, row_of, len_at, char_len, walk, utf8_of}
+use Rattle.stream.specs.Faults.{invalid_value, consume_byte, consume_string}
+use Rattle.stream.specs.Refusals.{Inside, admit_text}
+use Rattle.stream.specs.declared.Fault.{Fault}
+use Rattle.stream.specs.declared.Read.{Read}
+use Rattle.stream.specs.declared.Refusal.{Refusal}
+use Rattle.stream.proofs.Binds.{bind_ok, at_ok}
+use Rattle.stream.proofs.Edges.{Admitted, admit_holds, edge_ok}
 use Rattle.stream.proofs.Sames.{curr_consumed}
-use Rattle.text_bytes.proofs.Scans.{from_scan, run_inside, scan_here}
-use Rattle.text_bytes.proofs.Wording.{same_eq, curr_inside, curr_byte, begins_with, starts_first, space_ascii}
 use Rattle.color.specs.Answer as color
 use Rattle.color.specs.Color.{parse_color_text}
-use Rattle.color.specs.Moves.{then_color}
-use Rattle.color.specs.declared.ColorAnswer.TheVariants as K
-use Rattle.color.specs.declared.ColorRead.{ColorRead}
-use Rattle.color.specs.declared.ColorRead.TheVariants as C
-use Rattle.funciri.specs.Link.{is_quote, is_link, link_at, close_link, close_quote, quoted_link, parse_func_iri}
-use Rattle.funciri.specs.declared.LinkRead.{LinkRead}
-use Rattle.funciri.specs.declared.LinkRead.TheVariants as L
+use Rattle.color.specs.declared.Color.{Color}
+use Rattle.funciri.specs.Link.{is_quote, is_link, link_at, link_read, close_link, close_quote, quoted_link, parse_func_iri}
+use Rattle.paint.specs.Reading.{parse_fallback, parse_linked, parse_paint}
+use Rattle.paint.specs.declared.PaintFallback.{PaintFallback}
+use Rattle.paint.specs.declared.PaintFallback.TheVariants as F
 use Rattle.fast_funciri.specs.Bare.{is_bare_byte}
 use Rattle.fast_funciri.proofs.Bare.{plain_quick, quoted_quick}
 use Rattle.fast_funciri.proofs.Links.{bare_ascii, url_named}
-use Rattle.text_bytes.proofs.Ahead.{scan_bytes}
-use Rattle.paint.specs.Moves.{move_paint, then_paint_read}
-use Rattle.paint.specs.Reading.{parse_fallback, parse_linked, parse_paint}
-use Rattle.paint.specs.declared.Paint.TheVariants as P
-use Rattle.paint.specs.declared.PaintFallback.TheVariants as F
-use Rattle.paint.specs.declared.PaintRead.{PaintRead}
-use Rattle.paint.specs.declared.PaintRead.TheVariants as R
-use Rattle.packed.specs.Numbers.{no_paint, places, starts, lens, fallback_number, paint_number, refusal_number}
-use Rattle.fast_paint.specs.Told.{or_told, fault_number, read_number, inner_number, with_color, with_fallback, with_rest}
-use Rattle.fast_paint.proofs.Admits.{front_utf8, admits_after}
-use Rattle.fast_paint.proofs.Tells.{right, fault_number_is}
+use Rattle.fast_paint.specs.Links.{bare_link, told_link, color_fallback, told_fallback}
 
--- the rest of a text, as the code makes the part
-pub with_part : (n : ℕ) (t : List ℕ) (i : ℕ) {x : ℕ} → x ≡ with_fallback n (take (length t - i) (drop i t)) → x ≡ with_fallback n (drop i t)
-with_part n t i h = rw rest_part at h
+-- what a word that was seen says of the text
+pub word_inside : (w t : List ℕ) → starts_with w t ≡ true → (starts_with w t ≡ true) × (length w ≤ length t)
+word_inside w t h = (h, omega (arith, ap (λ (x : List ℕ). length x) (begins_with w t h), length-append w (drop (length w) t)))
 
--- what a test answered of a text holds of it
-pub begun : (w t : List ℕ) {r : Bool} → r ≡ starts_with w t → r ≡ true → starts_with w t ≡ true
-begun w t b f = sym b ∙ f
+word_at : (w t : List ℕ) (q j : ℕ) → starts_with w (drop q t) ≡ true → get_or t (q + j) 0 ≡ get_or (w ++ drop (length w) (drop q t)) j 0
+word_at w t q j h = rw (← begins_with w (drop q t) h, get_or-drop) refl
+
+curr_is : (t : List ℕ) (i c : ℕ) → get_or t i 0 ≡ c → 0 < c → true ≡ is_curr_byte_eq t i c
+unfolding is_curr_byte_eq
+curr_is t i c e h = simp (lt-ltb i (length t) (byte_inside t i c (sym e) h), eq-eqb (get_or t i 0) c e)
+
+no_some : {A : Type 0} {a : A} {C : Type 0} → None ≡ Some a → C
+no_some e = let z : ◌≡◌ {A = ℕ} 0 1 = cc in absurd (omega arith)
+
+given : {A : Type 0} {a b : A} → Some a ≡ Some b → a ≡ b
+given e = cc
+
+-- a link that begins a text: as it is read, behind ASCII alone
+pub record Linked (t : List ℕ) (r : Read Part) : Type 0 where
+  pub begins : starts_with (ascii "url(") t ≡ true
+  pub read : parse_func_iri t 0 ≡ Ok r
+  pub ascii : (j : ℕ) → j < r.next.0 → get_or t j 0 < 128
+  pub start : r.value.start.0 ≤ 6
+  pub len : r.value.len ≤ length t
+
+-- the longer word begins with the word
+url_more : (x : List ℕ) → starts_with (ascii "url(") (ascii "url(" ++ x) ≡ true
+unfolding starts_with
+url_more x = refl
+
+url_bytes : (c : ℕ) (x : List ℕ) → c < 128 → (j : ℕ) → j < 5 → get_or (ascii "url(" ++ (c ∷ x)) j 0 < 128
+url_bytes c x l zero h = omega arith
+url_bytes c x l (suc zero) h = omega arith
+url_bytes c x l (suc (suc zero)) h = omega arith
+url_bytes c x l (suc (suc (suc zero))) h = omega arith
+url_bytes c x l (suc (suc (suc (suc zero)))) h = l
+url_bytes c x l (suc (suc (suc (suc (suc j))))) h = absurd (omega arith)
+
+-- up to a link's bytes, these, and what closes them
+front_ascii : (t : List ℕ) (a q p : ℕ) → q ≡ scan is_bare_byte t a → ((j : ℕ) → j < a → get_or t j 0 < 128) → ((j : ℕ) → q ≤ j → j < p → get_or t j 0 < 128)
+    → (j : ℕ) → j < p → get_or t j 0 < 128
+front_ascii t a q p n before after j h =
+    ⊎_elim (λ (l : j < a). before j l)
+    (λ (l : a ≤ j).
+    ⊎_elim (λ (m : j < q). bare_ascii t a j l (rw n at m))
+    (λ (m : q ≤ j). after j m h)
+    (lt_or_le j q))
+    (lt_or_le j a)
+
+-- what is told of the bytes from a on
+module _ (t : List ℕ) (a : ℕ) (close : List ℕ) (r : Read Part) (e : bare_link t a close ≡ Some r) where
+  record Bare : Type 0 where
+    past : ltb a (scan is_bare_byte t a) ≡ true
+    closed : starts_with close (drop (scan is_bare_byte t a) t) ≡ true
+    is : r ≡ link_read (link_at (place a) (scan is_bare_byte t a - a)) (scan is_bare_byte t a + length close)
+
+  bare : Bare
+  unfolding bare_link
+  bare =
+      let q = scan is_bare_byte t a in
+      let u = starts_with close (drop q t) in
+      either (ltb a q && u) (λ h. record { past = and_first (ltb a q) u h; closed = and_second (ltb a q) u h; is = sym (given (simp h at e)) }) (λ h. no_some (simp h at e))
+
+-- `url(#name)`
+plain_linked : (t : List ℕ) (r : Read Part) → starts_with (ascii "url(#") t ≡ true → bare_link t 5 (ascii ")") ≡ Some r → Linked t r
+plain_linked t r b e =
+    let q = scan is_bare_byte t 5 in
+    let v = bare t 5 (ascii ")") r e in
+    let z : q + 0 ≡ q = omega arith in
+    let c : get_or t q 0 ≡ 41 = rw z at (word_at (ascii ")") t q 0 v.closed) in
+    let w = begins_with (ascii "url(#") t b in
+    rw v.is
+    (record {
+      begins = rw w (url_more (35 ∷ drop 5 t));
+      read = url_named t b ∙ sym (plain_quick t (place 5) q refl (curr_is t q 41 c (omega arith)) (simp v.past));
+      ascii = front_ascii t 5 q (q + 1) refl (λ j h. rw w (url_bytes 35 (drop 5 t) (omega arith) j h)) (λ j h l. let i : j ≡ q = omega arith in rw i (omega (arith, c)));
+      start = omega arith;
+      len = run_inside is_bare_byte t 5;
+    })
+
+-- after the quote and `#` the name is read
+abbrev quoted_name : List ℕ → ℕ → Result (Read Part) Fault
+quoted_name s c =
+    let end = scan (is_other c) s 6 in
+    let len = trim_end (part s 6 end) in
+    if is_link (take len (part s 6 end)) then close_quote s end c (link_at (place 6) len) else Err (invalid_value end)
+
+abbrev quoted : ℕ → List ℕ
+quoted c = ascii "url(" ++ (c ∷ 35 ∷ [])
+
+quoted_opened : (c : ℕ) (x : List ℕ) → is_quote c ≡ true → is_space c ≡ false → parse_func_iri (ascii "url(" ++ (c ∷ 35 ∷ x)) 0 ≡ quoted_name (ascii "url(" ++ (c ∷ 35 ∷ x)) c
+unfolding parse_func_iri quoted_link consume_byte consume_string starts_with scan run
+quoted_opened c x h e =
+    let s = ascii "url(" ++ (c ∷ 35 ∷ x) in
+    simp (e, h, lt-leb (length s) 0 (omega arith), lt-leb (length s) 5 (omega arith))
+
+quoted_bytes : (c : ℕ) (x : List ℕ) → c < 128 → (j : ℕ) → j < 6 → get_or (ascii "url(" ++ (c ∷ 35 ∷ x)) j 0 < 128
+quoted_bytes c x l j h =
+    ⊎_elim (λ (m : j < 5). url_bytes c (35 ∷ x) l j m)
+    (λ (m : 5 ≤ j). let i : j ≡ 5 = omega arith in rw i (omega arith))
+    (lt_or_le j 5)
+
+-- `url('#name')`
+module _ (t : List ℕ) (r : Read Part) (c : ℕ) (h : is_quote c ≡ true) (o : is_space c ≡ false) (l : c < 128) (some : 0 < c)
+    (b : starts_with (quoted c) t ≡ true) (e : bare_link t 6 (c ∷ 41 ∷ []) ≡ Some r) where
+  abbrev q : ℕ
+  q = scan is_bare_byte t 6
+
+  quote_at : get_or t q 0 ≡ c
+  quote_at =
+      let z : q + 0 ≡ q = omega arith in
+      rw z at (word_at (c ∷ 41 ∷ []) t q 0 (bare t 6 (c ∷ 41 ∷ []) r e).closed)
+
+  bracket_at : get_or t (q + 1) 0 ≡ 41
+  bracket_at = word_at (c ∷ 41 ∷ []) t q 1 (bare t 6 (c ∷ 41 ∷ []) r e).closed
+
+  quoted_close : Ok (link_read (link_at (place 6) (q - 6)) (q + 2)) ≡ close_link t (q + 1) (link_at (place 6) (q - 6))
+  unfolding close_link
+  quoted_close =
+      let g : scan is_space t (q + 1) ≡ q + 1 = scan_here is_space t (q + 1) (rw bracket_at refl) (byte_inside t (q + 1) 41 (sym bracket_at) (omega arith)) in
+      let y : q + 1 + 1 ≡ q + 2 = omega arith in
+      simp (g, curr_consumed t (q + 1) 41 (curr_is t (q + 1) 41 bracket_at (omega arith)) refl, y)
+
+  quoted_linked : Linked t r
+  quoted_linked =
+      let v = bare t 6 (c ∷ 41 ∷ []) r e in
+      let w = begins_with (quoted c) t b in
+      rw v.is
+      (record {
+        begins = rw w (url_more (c ∷ 35 ∷ drop 6 t));
+        read = rw w (quoted_opened c (drop 6 t) h o) ∙ sym (quoted_quick t (place 6) q c refl (sym h) (curr_is t q c quote_at some) (simp v.past) quoted_close);
+        ascii = front_ascii t 6 q (q + 2) refl (λ j k. rw w (quoted_bytes c (drop 6 t) l j k)) after;
+        start = omega arith;
+        len = run_inside is_bare_byte t 6;
+      })
+    where
+      after : (j : ℕ) → q ≤ j → j < q + 2 → get_or t j 0 < 128
+      after j k m =
+          ⊎_elim (λ (n : j < q + 1). let i : j ≡ q = omega arith in rw i (omega (arith, quote_at)))
+          (λ (n : q + 1 ≤ j). let i : j ≡ q + 1 = omega arith in rw i (omega (arith, bracket_at)))
+          (lt_or_le j (q + 1))
+
+pub linked : (t : List ℕ) (r : Read Part) → told_link t ≡ Some r → Linked t r
+unfolding told_link
+linked t r e =
+    either (starts_with (ascii "url(#") t) (λ b. plain_linked t r b (simp b at e))
+    (λ a. either (starts_with (quoted 39) t) (λ b. quoted_linked t r 39 refl refl (omega arith) (omega arith) b (simp (a, b) at e))
+    (λ b. either (starts_with (quoted 34) t) (λ d. quoted_linked t r 34 refl refl (omega arith) (omega arith) d (simp (a, b, d) at e))
+    (λ d. no_some (simp (a, b, d) at e))))
+
+-- the bounds of its number
+pub link_inside : (t : List ℕ) (r : Read Part) → told_link t ≡ Some r → (told_link t ≡ Some r) × ((r.value.start.0 ≤ 6) × (r.value.len ≤ length t))
+link_inside t r e = let v = linked t r e in (e, (v.start, v.len))
 
 -- a text that begins with `url(` is no keyword
 not_same : (s : List ℕ) (w : ℕ) (ws : List ℕ) → eqb (get_or s 0 0) w ≡ false → same s (w ∷ ws) ≡ false
@@ -68,190 +201,41 @@ unfolding same
 not_same [] w ws e = refl
 not_same (x ∷ xs) w ws e = simp e
 
-linked_first : (s : List ℕ) → starts_with (ascii "url(") s ≡ true → parse_paint s ≡ parse_linked s
+pub linked_first : (s : List ℕ) → starts_with (ascii "url(") s ≡ true → parse_paint s ≡ parse_linked s
 unfolding parse_paint
 linked_first s f =
     let b : get_or s 0 0 ≡ 117 = starts_first 117 (ascii "rl(") s f in
     let n : (w : ℕ) (ws : List ℕ) → eqb 117 w ≡ false → same s (w ∷ ws) ≡ false = λ w ws k. not_same s w ws (rw b k) in
     simp (n 110 (ascii "one") refl, n 105 (ascii "nherit") refl, n 99 (ascii "urrentColor") refl, n 99 (ascii "ontext-fill") refl, n 99 (ascii "ontext-stroke") refl, f)
 
--- its word is ASCII, and with `#` it is the longer word
-url_bytes : (x : List ℕ) (j : ℕ) → j < 4 → get_or (ascii "url(" ++ x) j 0 < 128
-url_bytes x zero h = omega arith
-url_bytes x (suc zero) h = omega arith
-url_bytes x (suc (suc zero)) h = omega arith
-url_bytes x (suc (suc (suc zero))) h = omega arith
-url_bytes x (suc (suc (suc (suc j)))) h = absurd (omega arith)
+-- a fallback that is told: of a text that may be read
+pub record Falls (x : List ℕ) (f : PaintFallback) : Type 0 where
+  pub utf8 : utf8_of x ≡ Ok tt
+  pub read : parse_fallback x ≡ Ok f
 
-url_hash : (x : List ℕ) → starts_with (ascii "url(#") (ascii "url(" ++ (35 ∷ x)) ≡ true
-unfolding starts_with
-url_hash x = refl
-
--- a byte that is there stands before the rest
-byte_rest : (t : List ℕ) (i : ℕ) {c : ℕ} → c ≡ get_or t i 0 → 0 < c → drop i t ≡ c ∷ drop (suc i) t
-byte_rest t i {c} e h = rw (← e) at (drop-cons t i 0 (byte_inside t i c e h))
-
--- the number of a link and of its fallback, from that of the link
-module _ (by : ℕ) (f : List ℕ) (l : Part) (i n : ℕ) (e : n ≡ 7 + ((by + l.start.0) * starts + l.len * lens)) where
-  abbrev pushed : PaintRead → ℕ
-  pushed r = then_paint_read (λ e b. no_paint + fault_number e) r (λ v. paint_number (move_paint by v))
-
-  -- a fallback's words may be read
-  fallback_word : (w : List ℕ) → same f w ≡ true → with_fallback n w ≡ then_admitted (λ e. no_paint + refusal_number e) (admit_text w) (pushed (parse_fallback w l (place i)))
-      → with_fallback n f ≡ then_admitted (λ e. no_paint + refusal_number e) (admit_text f) (pushed (parse_fallback f l (place i)))
-  fallback_word w s q = rw (same_eq f w s) q
-
-  fallback_is : with_fallback n f ≡ then_admitted (λ e. no_paint + refusal_number e) (admit_text f) (pushed (parse_fallback f l (place i)))
-  unfolding with_fallback with_color parse_fallback paint_number fallback_number move_paint color.from_str admit_text admit_utf8 utf8_of walk char_len len_at row_of keeps within same
-  fallback_is =
-      either (same f (ascii "none")) (λ a. fallback_word (ascii "none") a (omega arith))
-      (λ a. either (same f (ascii "currentColor")) (λ b. fallback_word (ascii "currentColor") b (omega arith))
-      (λ b. simp (a, b) (go (admit_text f) (parse_color_text f))))
+module _ (x : List ℕ) (f : PaintFallback) where
+  colored : same x (ascii "none") ≡ false → same x (ascii "currentColor") ≡ false → color_fallback (color.from_str x) ≡ Some f → Falls x f
+  unfolding parse_fallback color.from_str
+  colored a b = go (color.from_str x) refl
     where
-      go : (x : Admission) (r : ColorRead)
-          → with_color n (then_admitted K.Refused x (then_color (λ e. K.Refused (refusal_of f e)) r (λ c p. K.Value c)))
-          ≡ then_admitted (λ e. no_paint + refusal_number e) x (pushed (then_color (λ e. R.Refused e (place i)) r (λ c p. R.Value (P.FuncIRI l (F.Color c)))))
-      go M.Admitted (C.Value c p) = omega arith
-      go M.Admitted (C.Refused g) = ap (λ n. no_paint + n) (fault_number_is f g)
-      go (M.Refused g) r = refl
+      go : (y : Result Color Refusal) → color.from_str x ≡ y → color_fallback y ≡ Some f → Falls x f
+      go (Err e) k h = no_some h
+      go (Ok c) k h =
+          let v = bind_ok (admit_text x) _ k in
+          let w = bind_ok {A = Read Color} _ _ v.1.1 in
+          let d = edge_ok x (parse_color_text x) w.1.0 in
+          let z : w.0.value ≡ c = cc (w.1.1) in
+          record {
+            utf8 = (at_ok (λ _. Admitted x) (Inside (length x)) (admit_text x) v.0 (admit_holds x) v.1.0).utf8;
+            read = simp (a, b, d, z) (ap (λ (g : PaintFallback). Ok g) (given h));
+          }
 
--- a link from a to q, a run that fits
-module _ (t : List ℕ) (a q : ℕ) (n : q ≡ scan is_bare_byte t a) where
-  pub link_past : a ≤ q
-  link_past = from_scan is_bare_byte t a q n
+  word_falls : (w : List ℕ) (g : PaintFallback) → same x w ≡ true → utf8_of w ≡ Ok tt → parse_fallback w ≡ Ok g → Some g ≡ Some f → Falls x f
+  word_falls w g s u p h = rw (same_eq x w s) (record { utf8 = u; read = p ∙ ap (λ (k : PaintFallback). Ok k) (given h) })
 
-  module _ (small : length t ≤ 4096) where
-    pub link_len : q - a < places
-    link_len = omega (arith, run_inside is_bare_byte t a)
-
-    pub link_next : a ≤ 6 → (k : ℕ) → k ≤ 2 → Fits w64 (q + k)
-    link_next h k l = omega (arith, run_inside is_bare_byte t a)
-
--- a run may follow a byte that was seen
-pub hash_inside : (t : List ℕ) {b : ℕ} → b ≡ get_or t 4 0 → b ≡ 35 → 5 ≤ length t
-hash_inside t {b} e h = omega (arith, byte_inside t 4 b e (omega arith))
-
-pub mark_inside : (t : List ℕ) {r : Bool} → r ≡ is_curr_byte_eq t 5 35 → r ≡ true → 6 ≤ length t
-mark_inside t q h = omega (arith, curr_inside t 5 35 q h)
-
-pub ruleset fitting = (link_past, link_len, link_next, hash_inside, mark_inside)
-
--- a text that begins with `url(`, a link in it from a to q, and p, where reading goes on: ASCII stands before p
-module _ (t : List ℕ) (a q p : ℕ) (b : starts_with (ascii "url(") t ≡ true) (n : q ≡ scan is_bare_byte t a)
-    (before : (j : ℕ) → 4 ≤ j → j < a → get_or t j 0 < 128) (after : (j : ℕ) → q ≤ j → j < p → get_or t j 0 < 128) where
-  front_ascii : (j : ℕ) → j < scan is_space t p → get_or t j 0 < 128
-  front_ascii j k =
-      ⊎_elim (λ (o : j < 4). rw (begins_with (ascii "url(") t b) (url_bytes (drop 4 t) j o))
-      (λ (o : 4 ≤ j).
-      ⊎_elim (λ (l : j < a). before j o l)
-      (λ (l : a ≤ j).
-      ⊎_elim (λ (m : j < q). bare_ascii t a j l (rw n at m))
-      (λ (m : q ≤ j).
-      ⊎_elim (λ (w : j < p). after j m w)
-      (λ (w : p ≤ j). space_ascii (get_or t j 0) (scan_bytes is_space t p j w k))
-      (lt_or_le j p))
-      (lt_or_le j q))
-      (lt_or_le j a))
-      (lt_or_le j 4)
-
-  -- so that what follows it decides whether the text may be read
-  module _ (r : L.Link (link_at (place a) (q - a)) (place p) ≡ parse_func_iri t 0) (by : ℕ) (small : length t ≤ 4096) {m : ℕ} (e : m ≡ 7 + ((by + a) * starts + (q - a) * lens)) where
-    abbrev i : ℕ
-    i = scan is_space t p
-
-    read_is : parse_paint t ≡ cond (leb (length t) i) (R.Value (P.FuncIRI (link_at (place a) (q - a)) F.Absent)) (parse_fallback (drop i t) (link_at (place a) (q - a)) (place i))
-    unfolding parse_linked bind
-    read_is = linked_first t b ∙ rw (← r) refl
-
-    link_alone : length t ≤ i → m ≡ inner_number by t
-    unfolding inner_number read_number paint_number fallback_number move_paint
-    link_alone k =
-        let w : utf8_of t ≡ WellFormed = rw (take_all i t k) at (front_utf8 i t front_ascii) in
-        simp (← admit_good t small refl w, read_is, le-leb (length t) i k) (omega arith)
-
-    link_fallback : i < length t → with_fallback m (drop i t) ≡ inner_number by t
-    unfolding inner_number read_number
-    link_fallback k =
-        fallback_is by (drop i t) (link_at (place a) (q - a)) i m e
-        ∙ rw (admits_after i t front_ascii _ small, read_is, lt-leb (length t) i k) refl
-
-    rest_is : with_rest m t p ≡ inner_number by t
-    unfolding with_rest bind
-    rest_is =
-        ⊎_elim (λ (k : i < length t). simp (lt-leb (length t) i k) (link_fallback k))
-        (λ (k : length t ≤ i). simp (le-leb (length t) i k) (link_alone k))
-        (lt_or_le i (length t))
-
--- `url(#name)`: r and u are what the tests of the word and of the bracket answered, c is the byte after the word
-pub bare_told : (t : List ℕ) (q by c : ℕ) {r u : Bool} {m : ℕ} → r ≡ starts_with (ascii "url(") t → r ≡ true → c ≡ get_or t 4 0 → c ≡ 35 → q ≡ scan is_bare_byte t 5
-    → u ≡ is_curr_byte_eq t q 41 → (ltb 5 q && u) ≡ true → length t ≤ 4096 → m ≡ 7 + ((by + 5) * starts + (q - 5) * lens)
-    → (x : ℕ) → x ≡ with_rest m t (q + 1) → or_told x (inner_number by t) ≡ inner_number by t
-bare_told t q by c {r} {u} b f g h n k l small e x z =
-    let w : starts_with (ascii "url(") t ≡ true = begun (ascii "url(") t b f in
-    let d : 35 ≡ get_or t 4 0 = sym h ∙ g in
-    let y : starts_with (ascii "url(#") t ≡ true = rw (begins_with (ascii "url(") t w, byte_rest t 4 d (omega arith)) (url_hash (drop 5 t)) in
-    let past : 5 < q = ltb-true 5 q (and_first (ltb 5 q) u l) in
-    right x (inner_number by t) (z ∙ rest_is t 5 q (q + 1) w n
-    (λ j o s. let i : j ≡ 4 = omega arith in rw i (omega arith))
-    (λ j o s. let i : j ≡ q = omega arith in rw i (omega (arith, curr_byte t q 41 k (and_second (ltb 5 q) u l))))
-    (plain_quick t (place 5) q n k l ∙ sym (url_named t y)) by small e)
-
--- a quote is ASCII, and no space
-quote_plain : (c : ℕ) → is_quote c ≡ true → (0 < c) × ((c < 128) × (is_space c ≡ false))
-quote_plain c h =
-    either (eqb c 39) (λ e. rw (eqb-true c 39 e) (omega arith, (omega arith, refl)))
-    (λ e. rw (eqb-true c 34 (simp e at h)) (omega arith, (omega arith, refl)))
-
--- after the quote and `#` the name is read
-abbrev quoted_name : List ℕ → ℕ → LinkRead
-quoted_name s c =
-    bind (scan (is_other c) s 6) (λ end.
-    bind (trim_end (part s 6 end)) (λ len.
-    cond (is_link (take len (part s 6 end))) (close_quote s end c (link_at (place 6) len)) (L.Refused (invalid_value end))))
-
-quoted_opened : (c : ℕ) (x : List ℕ) → is_quote c ≡ true → is_space c ≡ false → parse_func_iri (ascii "url(" ++ (c ∷ 35 ∷ x)) 0 ≡ quoted_name (ascii "url(" ++ (c ∷ 35 ∷ x)) c
-unfolding parse_func_iri quoted_link consume_byte consume_string starts_with scan run bind
-quoted_opened c x h e =
-    let s = ascii "url(" ++ (c ∷ 35 ∷ x) in
-    simp (e, h, lt-leb (length s) 0 (omega arith), lt-leb (length s) 5 (omega arith))
-
--- `url('#name')`: r, u and v are what the tests of `#`, of the closing quote and of the bracket answered
-module _ (t : List ℕ) (q by c : ℕ) {r u v : Bool} (b : starts_with (ascii "url(") t ≡ true) (g : c ≡ get_or t 4 0) (h : is_quote c ≡ true) (d : r ≡ is_curr_byte_eq t 5 35) (f : r ≡ true)
-    (n : q ≡ scan is_bare_byte t 6) (k : u ≡ is_curr_byte_eq t q c) (l : v ≡ is_curr_byte_eq t (q + 1) 41) (z : (ltb 6 q && (u && v)) ≡ true) where
-  closed : u ≡ true
-  closed = and_first u v (and_second (ltb 6 q) (u && v) z)
-
-  ended : v ≡ true
-  ended = and_second u v (and_second (ltb 6 q) (u && v) z)
-
-  hash : 35 ≡ get_or t 5 0
-  hash = sym (curr_byte t 5 35 d f)
-
-  quoted_named : parse_func_iri t 0 ≡ quoted_name t c
-  quoted_named =
-      let w : t ≡ ascii "url(" ++ (c ∷ 35 ∷ drop 6 t) = rw (byte_rest t 4 g (quote_plain c h).0, byte_rest t 5 hash (omega arith)) at (begins_with (ascii "url(") t b) in
-      rw w (quoted_opened c (drop 6 t) h (quote_plain c h).1.1)
-
-  quoted_read : L.Link (link_at (place 6) (q - 6)) (place (q + 2)) ≡ parse_func_iri t 0
-  unfolding close_link bind
-  quoted_read =
-      let m : ((ltb 6 q && is_quote c) && u) ≡ true = simp (and_first (ltb 6 q) (u && v) z, h, closed) in
-      let i : 41 ≡ get_or t (q + 1) 0 = sym (curr_byte t (q + 1) 41 l ended) in
-      let o : scan is_space t (q + 1) ≡ q + 1 = scan_here is_space t (q + 1) (rw (← i) refl) (curr_inside t (q + 1) 41 l ended) in
-      let y : q + 1 + 1 ≡ q + 2 = omega arith in
-      quoted_quick t (place 6) q c n refl k m (simp (o, curr_consumed t (q + 1) 41 l ended, y)) ∙ sym quoted_named
-
-  pub quoted_told : {m : ℕ} → length t ≤ 4096 → m ≡ 7 + ((by + 6) * starts + (q - 6) * lens)
-      → (x : ℕ) → x ≡ with_rest m t (q + 2) → or_told x (inner_number by t) ≡ inner_number by t
-  quoted_told small e x y =
-      let low : c < 128 = (quote_plain c h).1.0 in
-      right x (inner_number by t) (y ∙ rest_is t 6 q (q + 2) b n
-      (both 4 (omega arith) (omega (arith, hash)))
-      (both q (omega (arith, curr_byte t q c k closed)) (omega (arith, curr_byte t (q + 1) 41 l ended)))
-      quoted_read by small e)
-    where
-      both : (i : ℕ) → get_or t i 0 < 128 → get_or t (i + 1) 0 < 128 → (j : ℕ) → i ≤ j → j < i + 2 → get_or t j 0 < 128
-      both i a o j s w =
-          ⊎_elim (λ (m : j < i + 1). let e : j ≡ i = omega arith in rw e a)
-          (λ (m : i + 1 ≤ j). let e : j ≡ i + 1 = omega arith in rw e o)
-          (lt_or_le j (i + 1))
+  pub falls : told_fallback x ≡ Some f → Falls x f
+  unfolding told_fallback parse_fallback utf8_of walk char_len len_at row_of keeps within same
+  falls e =
+      either (same x (ascii "none")) (λ a. word_falls (ascii "none") F.None a refl refl (simp a at e))
+      (λ a. either (same x (ascii "currentColor")) (λ b. word_falls (ascii "currentColor") F.CurrentColor b refl refl (simp (a, b) at e))
+      (λ b. colored a b (simp (a, b) at e)))

@@ -1,2 +1,3 @@
 pub mod Told
-pub mod Inked
+pub mod Links
+pub mod Visible

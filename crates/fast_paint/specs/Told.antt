@@ -1,70 +1,51 @@
--- What the numbers of the private readers stand for; only their contracts speak of it.
-use Rattle.std.specs.Prelude.{ℕ, ◌+◌, ◌*◌, ◌/◌, ◌%◌, Bool, ◌||◌, cond, List, eqb, leb, ltb, length, drop}
-use Rattle.text_bytes.specs.Bytes.{is_space}
-use Rattle.text_bytes.specs.Flow.{bind}
-use Rattle.stream.specs.Refusals.{number_of, admit_text, then_admitted}
-use Rattle.text_bytes.specs.Scan.{scan}
-use Rattle.text_bytes.specs.Words.{ascii, same}
-use Rattle.color.specs.Answer as color
-use Rattle.color.specs.declared.ColorAnswer.{ColorAnswer}
-use Rattle.color.specs.declared.ColorAnswer.TheVariants as C
-use Rattle.paint.specs.Moves.{move_paint, then_paint_read}
-use Rattle.paint.specs.Reading.{parse_paint}
-use Rattle.paint.specs.declared.PaintFallback.TheVariants as F
-use Rattle.stream.specs.declared.Fault.{Fault}
-use Rattle.packed.specs.Numbers.{no_paint, places, fallback_number, paint_number, refusal_number}
+-- What is told at once; the rest is left to the plain reader. Only contracts inside the crate speak of it.
+use Rattle.std.specs.Prelude.{ℕ, ◌-◌, ◌/◌, ◌%◌, ◌||◌, List, leb, ltb, eqb, Result, Ok, Err, Option, Some, None, if◌then◌else◌}
+use Rattle.text_bytes.specs.Moves.{place}
+use Rattle.text_bytes.specs.Words.{ascii, same, is_curr_byte_eq}
+use Rattle.text_bytes.specs.declared.Place.{Place}
+use Rattle.stream.specs.declared.Refusal.{Refusal}
+use Rattle.color.specs.Answer.{from_str}
+use Rattle.paint.specs.declared.Paint.{Paint}
+use Rattle.paint.specs.declared.Paint.TheVariants as P
+use Rattle.packed.specs.Numbers.{no_color, places, number_color, paint_number, color_or}
+use Rattle.fast_paint.specs.Links.{told_linked}
 
--- the first number that tells nothing: refusals are told below it, by no_paint, their number, of which there are fewer than 32, and where their stretch starts
-abbrev pub untold : ℕ
-untold = no_paint + 32 * places
-
--- the number told or, where nothing is told, x
-abbrev pub or_told : ℕ → ℕ → ℕ
-or_told r x = cond (ltb r untold) r x
-
--- a keyword's kind, 0 for another text
-unfoldable pub keyword_of : List ℕ → ℕ
+-- the number of the paint that a word alone names
+unfoldable pub keyword_of : List ℕ → Option ℕ
 keyword_of t =
-    cond (same t (ascii "none")) 1
-    (cond (same t (ascii "inherit")) 2
-    (cond (same t (ascii "currentColor")) 3
-    (cond (same t (ascii "context-fill")) 4
-    (cond (same t (ascii "context-stroke")) 5 0))))
+    if same t (ascii "none") then Some 1
+    else (if same t (ascii "inherit") then Some 2
+    else (if same t (ascii "currentColor") then Some 3
+    else (if same t (ascii "context-fill") then Some 4
+    else (if same t (ascii "context-stroke") then Some 5
+    else None))))
 
--- the number of the refusal that a fault becomes
-abbrev pub fault_number : Fault → ℕ
-fault_number e = number_of e.trouble * places + e.from.0
+-- A plain colour's refusal, by its number: it is 5 where its stretch starts, but where its text may not be read (1, 2), and for a number outside the domain
+unfoldable pub uncolored : ℕ → Option Place
+uncolored n = let r = n / places in if leb r 3 || (eqb r 10 || (eqb r 23 || eqb r 24)) then None else Some (place (n % places))
 
--- what a trimmed text reads as, with `by` bytes trimmed before it, or its refusal
-unfoldable pub read_number : ℕ → List ℕ → ℕ
-read_number by t = then_paint_read (λ e b. no_paint + fault_number e) (parse_paint t) (λ v. paint_number (move_paint by v))
+abbrev pub refused_at : Option Place → Option (Result ℕ Place)
+refused_at (Some p) = Some (Err p)
+refused_at None = None
 
--- the same, or the refusal of a text that may not be read
-unfoldable pub inner_number : ℕ → List ℕ → ℕ
-inner_number by t = then_admitted (λ e. no_paint + refusal_number e) (admit_text t) (read_number by t)
+-- a colour, by its number
+abbrev pub told_color : ℕ → Option (Result ℕ Place)
+told_color v = if ltb v no_color then Some (Ok (paint_number (P.Color (number_color v)))) else refused_at (uncolored (v - no_color))
 
--- the numbers that a paint does not swallow: of a text that may not be read, and of a number outside the domain
-abbrev pub kept : ℕ → Bool
-kept n = ltb n 4 || (eqb n 10 || (eqb n 23 || eqb n 24))
+-- a number that is told, or x
+abbrev pub some_or : Option ℕ → Option (Result ℕ Place) → Option (Result ℕ Place)
+some_or (Some v) x = Some (Ok v)
+some_or None x = x
 
--- a plain colour's refusal: a paint's is 5 where its stretch starts, but for these
-unfoldable pub uncolored : ℕ → ℕ
-uncolored n = no_paint + cond (kept (n / places)) n (5 * places + n % places)
+-- a text that is no link
+unfoldable pub told_plain : List ℕ → Option (Result ℕ Place)
+told_plain t = some_or (keyword_of t) (told_color (color_or (from_str t)))
 
--- a link whose number is n, with the colour answered as its fallback, or the colour's refusal
-unfoldable pub with_color : ℕ → ColorAnswer → ℕ
-with_color n (C.Value c) = n + fallback_number (F.Color c)
-with_color n (C.Refused e) = no_paint + refusal_number e
+-- a trimmed text, with `by` bytes trimmed before it; `u` (117) begins no other paint than a link
+unfoldable pub told_inner : ℕ → List ℕ → Option (Result ℕ Place)
+told_inner by t = if is_curr_byte_eq t 0 117 then some_or (told_linked by t) None else told_plain t
 
--- with the fallback that a text reads as
-unfoldable pub with_fallback : ℕ → List ℕ → ℕ
-with_fallback n f =
-    cond (same f (ascii "none")) (n + fallback_number F.None)
-    (cond (same f (ascii "currentColor")) (n + fallback_number F.CurrentColor)
-    (with_color n (color.from_str f)))
-
--- with what follows it from i on: spaces, and a fallback unless the text ends there
-unfoldable pub with_rest : ℕ → List ℕ → ℕ → ℕ
-with_rest n t i =
-    bind (scan is_space t i) (λ k.
-    cond (leb (length t) k) n (with_fallback n (drop k t)))
+-- an answer, with its paint's number
+unfoldable pub numbered : Result Paint Refusal → Result ℕ Refusal
+numbered (Ok p) = Ok (paint_number p)
+numbered (Err e) = Err e

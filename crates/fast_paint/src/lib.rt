@@ -1,251 +1,197 @@
 // A paint as a whole text, sooner: what most texts are is told as one number, and the plain reader reads the rest.
 #![tactic(auto)]
 
-ghost use Rattle.std.specs.Prelude.{true, ◌≡◌, ◌+◌, ◌*◌, ◌≤◌, ◌<◌, length, get_or};
-ghost use Rattle.text_bytes.specs.Bytes.{within, is_space};
-ghost use Rattle.text_bytes.specs.Scan.{scan};
-ghost use Rattle.text_bytes.specs.Words.{ascii, starts_with};
-ghost use Rattle.funciri.specs.Link.{is_quote};
-ghost use Rattle.packed.specs.Numbers.{places, starts, lens, fallbacks, paint_or};
+ghost use Rattle.std.specs.Prelude.{◌≡◌, ◌+◌, ◌≤◌, true, length};
 ghost use Rattle.paint.specs.Answers.{from_str};
-ghost use Rattle.fast_paint.specs.Inked.{Inked};
-ghost use Rattle.fast_paint.specs.Told.{inner_number, keyword_of, or_told, with_fallback, with_rest, uncolored};
+ghost use Rattle.fast_color.specs.Told.{told_or};
+ghost use Rattle.fast_paint.specs.Links.{bare_link, told_link, told_fallback, told_linked};
+ghost use Rattle.fast_paint.specs.Told.{keyword_of, uncolored, told_plain, told_inner, numbered};
+ghost use Rattle.fast_paint.specs.Visible.{has_visible_ends, is_visible};
 
-use packed::{COLOR, FALLBACK, LEN, NO_COLOR, NO_PAINT, PLACES, START};
+use packed::{NO_COLOR, PLACES};
+use paint::{Paint, PaintFallback};
+use stream::{LIMIT, Read};
 use text_bytes::{Part, Place};
 
 mod numbered;
 
 pub use numbered::number;
 
-// The answer where nothing is told. Below it a refusal is told, by NO_PAINT, its number and where its stretch starts.
-const UNTOLD: u64 = 0x8000_0000_0004_0000;
-
-// A text over the limit; and the first number of a text that is no paint, with the first after all of these.
-const TOO_LONG: u64 = 0x8000_0000_0000_2000;
-
-const INVALID: u64 = 0x8000_0000_0000_a000;
-
-const PAST_INVALID: u64 = 0x8000_0000_0000_c000;
-
-// A keyword's kind, 0 for another text.
-fn keyword(text: &[u8]) -> u64
+// The number of the paint that a word alone names. Tests, as the plain reader's: a `match` on the words is proved byte by byte, in 57 goals that were left.
+#[tactic(auto, unfolding(crate::specs::Told::keyword_of))]
+fn keyword(text: &[u8]) -> Option<u64>
     ensures { result ≡ keyword_of text.now }
 {
     if text_bytes::equals(text, b"none") {
-        return 1;
+        return Some(1);
     }
     if text_bytes::equals(text, b"inherit") {
-        return 2;
+        return Some(2);
     }
     if text_bytes::equals(text, b"currentColor") {
-        return 3;
+        return Some(3);
     }
     if text_bytes::equals(text, b"context-fill") {
-        return 4;
+        return Some(4);
     }
     if text_bytes::equals(text, b"context-stroke") {
-        return 5;
+        return Some(5);
     }
-    0
+    None
 }
 
-// A link's number, with no fallback.
-fn link_number(start: Place, len: usize) -> u64
-    requires start_lt_places { start.0 < places }
-    requires len_lt_places { len < places }
-    ensures value { result ≡ 7 + (start.0 * starts + len * lens) }
-    ensures upper_bound { result < fallbacks }
+// A link at `start` of bytes that no reader has to judge, which `close` follows.
+#[tactic(auto, unfolding(crate::specs::Links::bare_link), using(text_bytes::proofs::Wording::word_ends))]
+fn bare_link(text: &[u8], start: Place, close: &[u8]) -> Option<Read<Part>>
+    requires { start.0 ≤ length text.now }
+    ensures { result ≡ bare_link text.now start.0 close.now }
 {
-    7 + ((start.0 as u64) * START + (len as u64) * LEN)
+    let end = fast_funciri::skip_bare(text, start);
+    if end.0 <= start.0 || !text_bytes::starts_with(text, end, close) {
+        return None;
+    }
+    let len = end.0 - start.0;
+    Some(Read {
+        value: Part { start, len },
+        next: Place(end.0 + close.len()),
+    })
 }
 
-// The fallback after a link whose number is `link`.
-fn with_fallback(text: &[u8], link: u64) -> u64
-    requires { link < fallbacks }
-    ensures { result ≡ with_fallback link text.now }
+// A link that a text begins with, with quotes or without.
+#[tactic(auto, unfolding(crate::specs::Links::told_link), using(crate::proofs::Links::word_inside))]
+fn told_link(text: &[u8]) -> Option<Read<Part>>
+    ensures { result ≡ told_link text.now }
+{
+    if text_bytes::begins(text, b"url(#") {
+        return bare_link(text, Place(5), b")");
+    }
+    if text_bytes::begins(text, b"url('#") {
+        return bare_link(text, Place(6), b"')");
+    }
+    if text_bytes::begins(text, b"url(\"#") {
+        return bare_link(text, Place(6), b"\")");
+    }
+    None
+}
+
+// The fallback that a text is; None for a text that is refused.
+#[tactic(auto, unfolding(crate::specs::Links::told_fallback))]
+fn told_fallback(text: &[u8]) -> Option<PaintFallback>
+    ensures { result ≡ told_fallback text.now }
 {
     if text_bytes::equals(text, b"none") {
-        return link + FALLBACK;
+        return Some(PaintFallback::None);
     }
     if text_bytes::equals(text, b"currentColor") {
-        return link + 2 * FALLBACK;
+        return Some(PaintFallback::CurrentColor);
+    }
+    let color = fast_color::from_str(text).ok()?;
+    Some(PaintFallback::Color(color))
+}
+
+// The number of a link and of what follows it: spaces, and a fallback unless the text ends there. `from` is where trimming left the text.
+#[tactic(auto, unfolding(crate::specs::Links::told_linked, paint::specs::Moves::link_start, packed::specs::Links::link_len), using(crate::proofs::Links::link_inside, text_bytes::proofs::Parts::rest_part))]
+fn told_linked(text: &[u8], from: Place) -> Option<u64>
+    requires { from.0 + length text.now ≤ 4096 }
+    ensures { result ≡ told_linked from.0 text.now }
+{
+    let read = told_link(text)?;
+    let start = Place(from.0 + read.value.start.0);
+    let link = Part {
+        start,
+        ..read.value
+    };
+    let base = text_bytes::skip_spaces(text, read.next);
+    if text.len() <= base.0 {
+        return Some(packed::paint_number(Paint::FuncIRI(link, None)));
+    }
+    let fallback = told_fallback(&text[base.0..])?;
+    Some(packed::paint_number(Paint::FuncIRI(link, Some(fallback))))
+}
+
+// A text that is no link: a keyword, a colour, or no paint.
+#[tactic(auto, unfolding(crate::specs::Told::told_plain))]
+fn told_plain(text: &[u8]) -> Option<Result<u64, Place>>
+    ensures { result ≡ told_plain text.now }
+{
+    if let Some(v) = keyword(text) {
+        return Some(Ok(v));
     }
     let v = fast_color::value(text);
     if v < NO_COLOR {
-        return link + (3 * FALLBACK + v * COLOR);
+        return Some(Ok(packed::painted(v)));
     }
-    NO_PAINT + (v - NO_COLOR)
-}
-
-// What follows a link whose number is `link`: nothing, or a fallback.
-fn with_rest(text: &[u8], at: Place, link: u64) -> u64
-    requires { link < fallbacks }
-    ensures { result ≡ with_rest link text.now at.0 }
-{
-    let base = text_bytes::skip_spaces(text, at);
-    let i = base.0;
-    if text.len() <= i {
-        return link;
-    }
-    with_fallback(&text[i..], link)
-}
-
-// A link in quotes: `url(` and the opening quote, `quote`, were seen.
-fn told_quoted(text: &[u8], from: Place, quote: u8) -> u64
-    requires text_len_bound { length text.now ≤ 4096 }
-    requires from_bound { from.0 ≤ 4096 }
-    requires text_value { starts_with (ascii "url(") text.now ≡ true }
-    requires quote_value { quote ≡ get_or text.now 4 0 }
-    requires quote_value_2 { is_quote quote ≡ true }
-    ensures { or_told result (inner_number from.0 text.now) ≡ inner_number from.0 text.now }
-{
-    if text_bytes::is_curr_byte_eq(text, Place(5), b'#') {
-        let by = from.0;
-        let end = fast_funciri::skip_bare(text, Place(6));
-        let q = end.0;
-        if (6 < q)
-            & (text_bytes::is_curr_byte_eq(text, end, quote)
-                & text_bytes::is_curr_byte_eq(text, Place(q + 1), b')'))
-        {
-            return with_rest(text, Place(q + 2), link_number(Place(by + 6), q - 6));
-        }
-    }
-    UNTOLD
-}
-
-// A text that begins with a link; `from` is where trimming left it.
-fn told_linked(text: &[u8], from: Place) -> u64
-    requires text_len_bound { length text.now ≤ 4096 }
-    requires from_bound { from.0 ≤ 4096 }
-    ensures { or_told result (inner_number from.0 text.now) ≡ inner_number from.0 text.now }
-{
-    if text_bytes::begins(text, b"url(") {
-        let b = text_bytes::byte_at(text, Place(4));
-        if b == b'#' {
-            let by = from.0;
-            let end = fast_funciri::skip_bare(text, Place(5));
-            let q = end.0;
-            if (5 < q) & text_bytes::is_curr_byte_eq(text, end, b')') {
-                return with_rest(text, Place(q + 1), link_number(Place(by + 5), q - 5));
-            }
-            return UNTOLD;
-        }
-        if (b == b'\'') | (b == b'"') {
-            return told_quoted(text, from, b);
-        }
-    }
-    UNTOLD
+    Some(Err(uncolored(v - NO_COLOR)?))
 }
 
 // A text without white space at its ends, which trimming left from `from` on.
-fn told_inner(text: &[u8], from: Place) -> u64
-    requires text_len_bound { length text.now ≤ 4096 }
-    requires from_bound { from.0 ≤ 4096 }
-    ensures { or_told result (inner_number from.0 text.now) ≡ inner_number from.0 text.now }
+#[tactic(auto, unfolding(crate::specs::Told::told_inner))]
+fn told_inner(text: &[u8], from: Place) -> Option<Result<u64, Place>>
+    requires { from.0 + length text.now ≤ 4096 }
+    ensures { result ≡ told_inner from.0 text.now }
 {
     if text_bytes::is_curr_byte_eq(text, Place(0), b'u') {
-        return told_linked(text, from);
+        return Some(Ok(told_linked(text, from)?));
     }
-    let k = keyword(text);
-    if 0 < k {
-        return k;
-    }
-    let v = fast_color::value(text);
-    if v < NO_COLOR {
-        return 6 + v * COLOR;
-    }
-    uncolored(v - NO_COLOR)
+    told_plain(text)
 }
 
-// A plain colour that is refused is 5 where its stretch starts, but where its text may not be read, or for a number outside the domain.
-fn uncolored(refusal: u64) -> u64
-    requires { refusal < 32 * places }
+// Where a plain colour is refused, by the number of its refusal, which `fast_color::value` tells in a register. None where its text may not be read, or for a number outside the domain.
+#[tactic(auto, unfolding(crate::specs::Told::uncolored))]
+fn uncolored(refusal: u64) -> Option<Place>
     ensures { result ≡ uncolored refusal }
 {
-    let number = refusal / PLACES;
-    if (number < 4) | ((number == 10) | ((number == 23) | (number == 24))) {
-        return NO_PAINT + refusal;
-    }
-    INVALID + refusal % PLACES
-}
-
-// Where the spaces at a text's end begin, from `from` on.
-fn space_end(text: &[u8], from: Place) -> Place
-    requires { from.0 ≤ length text.now }
-    ensures result_in_bounds { result.0 ≤ length text.now }
-    ensures result_value { scan is_space text.now result.0 ≡ length text.now }
-{
-    let i = from.0;
-    let mut e = text.len();
-    while i < e {
-        if text_bytes::is_space(text[e - 1]) {
-            e -= 1;
-        } else {
-            return Place(e);
-        }
-    }
-    Place(e)
-}
-
-// A byte that is no part of white space: a visible ASCII character.
-fn is_inked(b: u8) -> bool
-    ensures { result ≡ within 33 126 b }
-{
-    (b'!' <= b) & (b <= b'~')
-}
-
-// The part between the spaces at a text's ends, where visible characters end it; an empty one else.
-fn spaced_part(text: &[u8]) -> Part
-    ensures { Inked text.now result.start.0 result.len }
-{
-    let start = text_bytes::skip_spaces(text, Place(0));
-    let end = space_end(text, start);
-    let a = start.0;
-    let e = end.0;
-    if a < e {
-        if is_inked(text[a]) & is_inked(text[e - 1]) {
-            return Part {
-                start: start,
-                len: e - a,
-            };
-        }
-    }
-    Part {
-        start: start,
-        len: 0,
+    match refusal / PLACES {
+        0..=3 | 10 | 23 | 24 => None,
+        _ => Some(Place((refusal % PLACES) as usize)),
     }
 }
 
-// The same. Most texts have no spaces at their ends: one look at the first and the last byte tells.
-fn inked_part(text: &[u8]) -> Part
-    ensures { Inked text.now result.start.0 result.len }
+// Whether the first and the last byte are visible ASCII characters, no part of white space.
+#[tactic(auto, unfolding(crate::specs::Visible::has_visible_ends, text_bytes::specs::Bytes::within))]
+fn has_visible_ends(text: &[u8]) -> bool
+    ensures { result ≡ has_visible_ends text.now }
 {
-    let len = text.len();
-    if 0 < len {
-        if is_inked(text[0]) & is_inked(text[len - 1]) {
-            return Part {
-                start: Place(0),
-                len: len,
-            };
-        }
-    }
-    spaced_part(text)
+    matches!(
+        (text.first(), text.last()),
+        (Some(b'!'..=b'~'), Some(b'!'..=b'~'))
+    )
 }
 
-// What is told of a whole text at once. Spaces alone are trimmed: that other white space stands at neither end is told by the first and the last byte left.
-fn told(text: &[u8]) -> u64
-    ensures { or_told result (paint_or (from_str text.now)) ≡ paint_or (from_str text.now) }
+// The part between the spaces at a text's ends, where visible characters end it. Most texts have no spaces at
+// their ends: one look at the first and the last byte tells.
+#[tactic(auto, using(crate::proofs::Visible::none_visible, crate::proofs::Visible::whole_visible, crate::proofs::Visible::trimmed_visible))]
+fn visible_part(text: &[u8]) -> Option<Part>
+    ensures { is_visible text.now result ≡ true }
 {
-    if 4096 < text.len() {
-        return TOO_LONG;
+    if has_visible_ends(text) {
+        return Some(Part {
+            start: Place(0),
+            len: text.len(),
+        });
     }
-    let part = inked_part(text);
-    let start = part.start;
-    let a = start.0;
-    let n = part.len;
-    if 0 < n {
-        return told_inner(&text[a..a + n], start);
+    let rest = text.trim_ascii_start();
+    let part = rest.trim_ascii_end();
+    if !has_visible_ends(part) {
+        return None;
     }
-    UNTOLD
+    Some(Part {
+        start: Place(text.len() - rest.len()),
+        len: part.len(),
+    })
+}
+
+// What is told of a whole text at once: its paint's number, or where a text that is no paint was read to. None: the
+// plain reader is to be asked. Spaces alone are trimmed: that other white space stands at neither end is told by the
+// first and the last byte left.
+#[tactic(auto, unfolding(fast_color::specs::Told::told_or), using(crate::proofs::Trims::part_inside, crate::proofs::Texts::part_told))]
+fn told(text: &[u8]) -> Option<Result<u64, Place>>
+    ensures { told_or result (numbered (from_str text.now)) ≡ numbered (from_str text.now) }
+{
+    if LIMIT < text.len() {
+        return None;
+    }
+    let part = visible_part(text)?;
+    let start = part.start.0;
+    told_inner(&text[start..start + part.len], part.start)
 }

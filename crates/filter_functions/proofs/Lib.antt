@@ -1,7 +1,6 @@
-pub mod Steps
 pub mod Shifts
+pub mod Others
 pub mod Values
-pub mod Parts
-pub mod Stretches
 pub mod Sames
 pub mod Kept
+pub mod Growing

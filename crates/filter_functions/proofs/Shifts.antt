@@ -3,100 +3,62 @@ use Prim.Native.Nat.{ℕ, ◌+◌}
 use mathlib.Core.List.{List, ◌++◌}
 use mathlib.Core.Path.{◌≡◌, refl}
 use lib.Ieee.{Float}
-use lib.ListN.{length}
-use Rattle.text_bytes.specs.Flow.{bind}
+use lib.Dec.{leb}
+use lib.ListN.{length, drop}
+use Rattle.std.specs.Prelude.{Result, Ok, Err, Option, Some, None}
+use Rattle.text_bytes.specs.Bytes.{is_space, is_ascii_ident}
 use Rattle.text_bytes.specs.Moves.{move_place}
-use Rattle.stream.specs.Moves.{move_fault}
+use Rattle.text_bytes.specs.Scan.{scan}
+use Rattle.text_bytes.specs.Words.{ascii, starts_with, is_curr_byte_eq, part}
+use Rattle.text_bytes.proofs.Scans.{scan_shift}
+use Rattle.text_bytes.proofs.Shifts.{shifts, cond_push, same_else, curr_shift, part_shift}
+use Rattle.stream.specs.Faults.{consume_byte}
+use Rattle.stream.specs.Moves.{moved, move_read, move_fault, stays}
 use Rattle.stream.specs.Refusals.{is_outside_domain}
 use Rattle.stream.specs.declared.Fault.{Fault}
-use Rattle.text_bytes.specs.declared.Place.{Place}
-use Rattle.text_bytes.proofs.Shifts.{shifts, cond_push, curr_shift, part_shift}
-use Rattle.stream.proofs.Shifts.{byte_shift, consumed_move, consumed_push}
-use Rattle.numbers.proofs.Shifts.{number_shifts, number_push}
-use Rattle.length.specs.Moves.{move_length_read}
+use Rattle.stream.specs.declared.Read.{Read}
+use Rattle.stream.proofs.Binds.{bind_moved}
+use Rattle.stream.proofs.Shifts.{byte_shift}
+use Rattle.numbers.specs.Moves.{Number, move_written}
+use Rattle.numbers.specs.Number.{parse_number, parse_number_or_percent}
+use Rattle.numbers.specs.declared.Written.{Written}
+use Rattle.numbers.proofs.Shifts.{number_shift, percent_shift}
+use Rattle.length.specs.Lengths.{parse_length}
 use Rattle.length.specs.declared.Length.{Length}
-use Rattle.length.proofs.Shifts.{length_shift, length_move, length_push}
-use Rattle.angle.specs.Moves.{move_angle_read}
-use Rattle.angle.proofs.Shifts.{unit_shift, unit_move, unit_push, angle_move, angle_push}
-use Rattle.color.proofs.Shifts.{color_shift, color_move, color_push}
-use Rattle.filter_functions.specs.Moves.{move_filter_value, move_filter_read, then_filter, move_step_read, then_step, move_color_try, then_tried, move_deviation, then_deviation, move_lengths, then_lengths}
-use Rattle.filter_functions.specs.Values.{parse_filter_length, parse_filter_positive_length, parse_filter_angle, parse_blur, parse_hue_rotate, plain_value, parse_generic_color_func, parse_url}
-use Rattle.filter_functions.specs.Shadow.{try_parse_color, parse_deviation, parse_shadow_lengths, shadow_after, shadow_before, parse_drop_shadow_func}
+use Rattle.length.proofs.Shifts.{length_shift}
+use Rattle.angle.specs.Angles.{parse_unit}
+use Rattle.angle.specs.Moves.{move_unit}
+use Rattle.angle.specs.declared.Angle.{Angle}
+use Rattle.angle.specs.declared.AngleUnit.{AngleUnit}
+use Rattle.angle.proofs.Shifts.{unit_shift}
+use Rattle.color.specs.Color.{parse_color}
+use Rattle.color.specs.declared.Color.{Color}
+use Rattle.color.proofs.Shifts.{move_color, color_shift}
+use Rattle.filter_functions.specs.Moves.{move_filter_value, move_listed}
+use Rattle.filter_functions.specs.Values.{parse_filter_length, parse_filter_positive_length, marked, parse_filter_angle, parse_blur, parse_hue_rotate, plain_value, parse_generic_color_func, parse_url}
+use Rattle.filter_functions.specs.Shadow.{ColorRead, color_or, try_parse_color, deviation_or, parse_deviation, parse_shadow_lengths, shadow, shadow_after, or_none, shadow_before, shadow_on, parse_drop_shadow_func}
 use Rattle.filter_functions.specs.Filters.{filter_name, argument_of, parse_argument, close_bracket, parse_next, after_none, parse_step}
 use Rattle.filter_functions.specs.declared.FilterName.{FilterName}
 use Rattle.filter_functions.specs.declared.FilterName.TheVariants as N
-use Rattle.filter_functions.specs.declared.FilterRead.{FilterRead}
-use Rattle.filter_functions.specs.declared.FilterRead.TheVariants as F
 use Rattle.filter_functions.specs.declared.FilterValue.{FilterValue}
-use Rattle.filter_functions.specs.declared.StepRead.{StepRead}
-use Rattle.filter_functions.specs.declared.StepRead.TheVariants as S
-use Rattle.filter_functions.specs.declared.ShadowColor.{ShadowColor}
-use Rattle.filter_functions.specs.declared.ColorTry.{ColorTry}
-use Rattle.filter_functions.specs.declared.ColorTry.TheVariants as C
-use Rattle.filter_functions.specs.declared.DeviationRead.{DeviationRead}
-use Rattle.filter_functions.specs.declared.DeviationRead.TheVariants as D
-use Rattle.filter_functions.specs.declared.ShadowLengths.{ShadowLengths}
-use Rattle.filter_functions.specs.declared.ShadowLengths.TheVariants as L
+use Rattle.filter_functions.specs.declared.Listed.{Listed}
 use Rattle.filter_functions.specs.declared.Plain.{Plain}
 use Rattle.filter_functions.specs.declared.Plain.TheVariants as P
+use Rattle.filter_functions.specs.declared.ShadowLengths.{ShadowLengths}
 
--- the move of what is read goes into what follows it
-module _ {B : Type 0} (n : ℕ) (out : Fault → B) where
-  pub filter_move : (x : FilterRead) (k : FilterValue → Place → B)
-      → then_filter out (move_filter_read n x) k ≡ then_filter (λ e. out (move_fault n e)) x (λ v p. k (move_filter_value n v) (move_place n p))
-  filter_move (F.Value v p) k = refl
-  filter_move (F.Refused e) k = refl
+-- of a value that knows no place, its own place moves
+abbrev move_stay : {A : Type 0} → ℕ → Read A → Read A
+move_stay = move_read stays
 
-  pub step_move : (end none : B) (x : StepRead) (k : FilterValue → Place → B)
-      → then_step out end none (move_step_read n x) k ≡ then_step (λ e. out (move_fault n e)) end none x (λ v p. k (move_filter_value n v) (move_place n p))
-  step_move end none (S.Value v p) k = refl
-  step_move end none S.End k = refl
-  step_move end none S.NoneWord k = refl
-  step_move end none (S.Refused e) k = refl
+abbrev move_filter : ℕ → Read FilterValue → Read FilterValue
+move_filter = move_read move_filter_value
 
-  pub tried_move : (missing : B) (x : ColorTry) (k : ShadowColor → Place → B)
-      → then_tried out missing (move_color_try n x) k ≡ then_tried (λ e. out (move_fault n e)) missing x (λ c p. k c (move_place n p))
-  tried_move missing (C.Found c p) k = refl
-  tried_move missing C.Missing k = refl
-  tried_move missing (C.Refused e) k = refl
+abbrev pub move_step_read : ℕ → Read Listed → Read Listed
+move_step_read = move_read move_listed
 
-  pub deviation_move : (x : DeviationRead) (k : Length → Place → B)
-      → then_deviation out (move_deviation n x) k ≡ then_deviation (λ e. out (move_fault n e)) x (λ l p. k l (move_place n p))
-  deviation_move (D.Value l p) k = refl
-  deviation_move (D.Refused e) k = refl
-
-  pub lengths_move : (x : ShadowLengths) (k : Length → Length → Length → Place → B)
-      → then_lengths out (move_lengths n x) k ≡ then_lengths (λ e. out (move_fault n e)) x (λ dx dy d p. k dx dy d (move_place n p))
-  lengths_move (L.Value dx dy d p) k = refl
-  lengths_move (L.Refused e) k = refl
-
--- and so does a function around it
-module _ {A B : Type 0} (f : A → B) (out : Fault → A) where
-  pub filter_push : (x : FilterRead) (k : FilterValue → Place → A) → f (then_filter out x k) ≡ then_filter (λ e. f (out e)) x (λ v p. f (k v p))
-  filter_push (F.Value v p) k = refl
-  filter_push (F.Refused e) k = refl
-
-  pub step_push : (end none : A) (x : StepRead) (k : FilterValue → Place → A)
-      → f (then_step out end none x k) ≡ then_step (λ e. f (out e)) (f end) (f none) x (λ v p. f (k v p))
-  step_push end none (S.Value v p) k = refl
-  step_push end none S.End k = refl
-  step_push end none S.NoneWord k = refl
-  step_push end none (S.Refused e) k = refl
-
-  pub tried_push : (missing : A) (x : ColorTry) (k : ShadowColor → Place → A)
-      → f (then_tried out missing x k) ≡ then_tried (λ e. f (out e)) (f missing) x (λ c p. f (k c p))
-  tried_push missing (C.Found c p) k = refl
-  tried_push missing C.Missing k = refl
-  tried_push missing (C.Refused e) k = refl
-
-  pub deviation_push : (x : DeviationRead) (k : Length → Place → A) → f (then_deviation out x k) ≡ then_deviation (λ e. f (out e)) x (λ l p. f (k l p))
-  deviation_push (D.Value l p) k = refl
-  deviation_push (D.Refused e) k = refl
-
-  pub lengths_push : (x : ShadowLengths) (k : Length → Length → Length → Place → A)
-      → f (then_lengths out x k) ≡ then_lengths (λ e. f (out e)) x (λ dx dy d p. f (k dx dy d p))
-  lengths_push (L.Value dx dy d p) k = refl
-  lengths_push (L.Refused e) k = refl
+abbrev move_tried : ℕ → ColorRead → ColorRead
+move_tried n None = None
+move_tried n (Some c) = Some (move_stay n c)
 
 -- a plain function's value has no place
 plain_move : (n : ℕ) (f : Plain) (x : Float) → move_filter_value n (plain_value f x) ≡ plain_value f x
@@ -114,86 +76,141 @@ unfolding is_outside_domain
 outside_move n e = refl
 
 module _ (a b : List ℕ) where
-  filter_length_shift : (name i : ℕ) → parse_filter_length (a ++ b) (length a + name) (length a + i) ≡ move_length_read (length a) (parse_filter_length b name i)
+  filter_length_shift : (name i : ℕ) → parse_filter_length (a ++ b) (length a + name) (length a + i) ≡ moved move_stay (length a) (parse_filter_length b name i)
   unfolding parse_filter_length
-  filter_length_shift name i = simp (length_shift, length_move, length_push (move_length_read (length a)), cond_push (move_length_read (length a)))
+  filter_length_shift name i =
+      bind_moved (move_read move_written) move_stay (length a) (parse_length b i) _ _ _ (length_shift a b i) (λ r. simp (cond_push (moved (move_stay {A = Length}) (length a))))
 
-  positive_shift : (name i : ℕ) → parse_filter_positive_length (a ++ b) (length a + name) (length a + i) ≡ move_length_read (length a) (parse_filter_positive_length b name i)
+  positive_shift : (name i : ℕ) → parse_filter_positive_length (a ++ b) (length a + name) (length a + i) ≡ moved move_stay (length a) (parse_filter_positive_length b name i)
   unfolding parse_filter_positive_length
-  positive_shift name i = simp (length_shift, length_move, length_push (move_length_read (length a)), cond_push (move_length_read (length a)))
+  positive_shift name i =
+      bind_moved (move_read move_written) move_stay (length a) (parse_length b i) _ _ _ (length_shift a b i) (λ r. simp (cond_push (moved (move_stay {A = Length}) (length a))))
 
-  filter_angle_shift : (name i : ℕ) → parse_filter_angle (a ++ b) (length a + name) (length a + i) ≡ move_angle_read (length a) (parse_filter_angle b name i)
-  unfolding parse_filter_angle bind
+  filter_angle_shift : (name i : ℕ) → parse_filter_angle (a ++ b) (length a + name) (length a + i) ≡ moved move_stay (length a) (parse_filter_angle b name i)
+  unfolding parse_filter_angle
   filter_angle_shift name i =
-      simp (shifts, number_shifts, unit_shift, unit_move, number_push (move_angle_read (length a)), unit_push (move_angle_read (length a)), cond_push (move_angle_read (length a)))
-
-  blur_shift : (name i : ℕ) → parse_blur (a ++ b) (length a + name) (length a + i) ≡ move_filter_read (length a) (parse_blur b name i)
-  unfolding parse_blur
-  blur_shift name i = simp (curr_shift, positive_shift, length_move, length_push (move_filter_read (length a)), cond_push (move_filter_read (length a)))
-
-  hue_shift : (name i : ℕ) → parse_hue_rotate (a ++ b) (length a + name) (length a + i) ≡ move_filter_read (length a) (parse_hue_rotate b name i)
-  unfolding parse_hue_rotate
-  hue_shift name i = simp (curr_shift, filter_angle_shift, angle_move, angle_push (move_filter_read (length a)), cond_push (move_filter_read (length a)))
-
-  plain_shift : (name i : ℕ) (f : Plain) → parse_generic_color_func (a ++ b) (length a + name) (length a + i) f ≡ move_filter_read (length a) (parse_generic_color_func b name i f)
-  unfolding parse_generic_color_func bind
-  plain_shift name i f = simp (curr_shift, number_shifts, plain_move, number_push (move_filter_read (length a)), cond_push (move_filter_read (length a)))
-
-  url_shift : (name i : ℕ) → parse_url (a ++ b) (length a + name) (length a + i) ≡ move_filter_read (length a) (parse_url b name i)
-  unfolding parse_url bind
-  url_shift name i = simp (shifts, byte_shift, consumed_move, consumed_push (move_filter_read (length a)), cond_push (move_filter_read (length a)))
-
-  try_shift : (i : ℕ) → try_parse_color (a ++ b) (length a + i) ≡ move_color_try (length a) (try_parse_color b i)
-  unfolding try_parse_color
-  try_shift i = simp (shifts, color_shift, color_move, outside_move, color_push (move_color_try (length a)), cond_push (move_color_try (length a)))
-
-  deviation_shift : (i : ℕ) → parse_deviation (a ++ b) (length a + i) ≡ move_deviation (length a) (parse_deviation b i)
-  unfolding parse_deviation bind
-  deviation_shift i = simp (shifts, length_shift, length_move, outside_move, length_push (move_deviation (length a)), cond_push (move_deviation (length a)))
-
-  lengths_shift : (name i : ℕ) → parse_shadow_lengths (a ++ b) (length a + name) (length a + i) ≡ move_lengths (length a) (parse_shadow_lengths b name i)
-  unfolding parse_shadow_lengths bind
-  lengths_shift name i =
-      simp (shifts, filter_length_shift, deviation_shift, length_move, deviation_move, length_push (move_lengths (length a)), deviation_push (move_lengths (length a)))
-
-  after_shift : (name i : ℕ) (c : ShadowColor) → shadow_after (a ++ b) (length a + name) (length a + i) c ≡ move_filter_read (length a) (shadow_after b name i c)
-  unfolding shadow_after
-  after_shift name i c = simp (lengths_shift, lengths_move, lengths_push (move_filter_read (length a)))
-
-  before_shift : (name i : ℕ) → shadow_before (a ++ b) (length a + name) (length a + i) ≡ move_filter_read (length a) (shadow_before b name i)
-  unfolding shadow_before
-  before_shift name i = simp (lengths_shift, try_shift, lengths_move, tried_move, lengths_push (move_filter_read (length a)), tried_push (move_filter_read (length a)))
-
-  shadow_shift : (name i : ℕ) → parse_drop_shadow_func (a ++ b) (length a + name) (length a + i) ≡ move_filter_read (length a) (parse_drop_shadow_func b name i)
-  unfolding parse_drop_shadow_func bind
-  shadow_shift name i =
-      simp (shifts, curr_shift, try_shift, before_shift, after_shift, tried_move, tried_push (move_filter_read (length a)), cond_push (move_filter_read (length a)))
-
-  argument_shift : (name end i : ℕ) → parse_argument (a ++ b) (length a + name) (length a + end) (length a + i) ≡ move_filter_read (length a) (parse_argument b name end i)
-  unfolding parse_argument bind
-  argument_shift name end i = simp part_shift (go (filter_name _))
+      let start = scan is_space b i in
+      simp scan_shift
+      (bind_moved (move_read move_written) move_stay (length a) (parse_number b start) _ _ _ (number_shift a b start) (λ r. simp unit_shift (go start r (parse_unit b r.next.0))))
     where
-      go : (x : FilterName) → argument_of x (a ++ b) (length a + name) (length a + i) ≡ move_filter_read (length a) (argument_of x b name i)
-      go N.Blur = blur_shift name i
-      go N.DropShadow = shadow_shift name i
-      go N.HueRotate = hue_shift name i
-      go (N.Plain f) = plain_shift name i f
-      go N.Url = url_shift name i
-      go N.Unknown = simp shifts
+      go : (start : ℕ) (r : Read Number) (u : Option (Read AngleUnit))
+          → marked (length a + start) (length a + name) (move_read move_written (length a) r) (move_unit (length a) u) ≡ moved move_stay (length a) (marked start name r u)
+      go start r None = simp (cond_push (moved (move_stay {A = Angle}) (length a)))
+      go start r (Some u) = refl
 
-  close_shift : (i : ℕ) (v : FilterValue) → close_bracket (a ++ b) (length a + i) (move_filter_value (length a) v) ≡ move_filter_read (length a) (close_bracket b i v)
-  unfolding close_bracket bind
-  close_shift i v = simp (shifts, byte_shift, consumed_move, consumed_push (move_filter_read (length a)))
+  blur_shift : (name i : ℕ) → parse_blur (a ++ b) (length a + name) (length a + i) ≡ moved move_filter (length a) (parse_blur b name i)
+  unfolding parse_blur
+  blur_shift name i =
+      simp (curr_shift, cond_push (moved move_filter (length a)))
+      (same_else (is_curr_byte_eq b i 41) _ _ _ (bind_moved move_stay move_filter (length a) (parse_filter_positive_length b name i) _ _ _ (positive_shift name i) (λ r. refl)))
 
-  next_shift : (i : ℕ) → parse_next (a ++ b) (length a + i) ≡ move_filter_read (length a) (parse_next b i)
-  unfolding parse_next bind
+  hue_shift : (name i : ℕ) → parse_hue_rotate (a ++ b) (length a + name) (length a + i) ≡ moved move_filter (length a) (parse_hue_rotate b name i)
+  unfolding parse_hue_rotate
+  hue_shift name i =
+      simp (curr_shift, cond_push (moved move_filter (length a)))
+      (same_else (is_curr_byte_eq b i 41) _ _ _ (bind_moved move_stay move_filter (length a) (parse_filter_angle b name i) _ _ _ (filter_angle_shift name i) (λ r. refl)))
+
+  plain_shift : (name i : ℕ) (f : Plain) → parse_generic_color_func (a ++ b) (length a + name) (length a + i) f ≡ moved move_filter (length a) (parse_generic_color_func b name i f)
+  unfolding parse_generic_color_func
+  plain_shift name i f =
+      simp (curr_shift, plain_move, cond_push (moved move_filter (length a)))
+      (same_else (is_curr_byte_eq b i 41) _ _ _
+      (bind_moved (move_read move_written) move_filter (length a) (parse_number_or_percent b i) _ _ _ (percent_shift a b i) (λ r. simp (plain_move, cond_push (moved move_filter (length a))))))
+
+  url_shift : (name i : ℕ) → parse_url (a ++ b) (length a + name) (length a + i) ≡ moved move_filter (length a) (parse_url b name i)
+  unfolding parse_url
+  url_shift name i =
+      bind_moved move_place move_filter (length a) (consume_byte b i 35) _ _ _ (byte_shift a b i 35) (λ p. simp (shifts, cond_push (moved move_filter (length a))))
+
+  try_shift : (i : ℕ) → try_parse_color (a ++ b) (length a + i) ≡ moved move_tried (length a) (try_parse_color b i)
+  unfolding try_parse_color
+  try_shift i = rw (color_shift a b i) (go (parse_color b i))
+    where
+      go : (x : Result (Read Color) Fault) → color_or (a ++ b) (length a + i) (moved move_color (length a) x) ≡ moved move_tried (length a) (color_or b i x)
+      go (Ok c) = refl
+      go (Err e) = simp (shifts, outside_move, cond_push (moved move_tried (length a)))
+
+  deviation_shift : (i : ℕ) → parse_deviation (a ++ b) (length a + i) ≡ moved move_stay (length a) (parse_deviation b i)
+  unfolding parse_deviation
+  deviation_shift i = rw (length_shift a b i) (go (parse_length b i))
+    where
+      go : (x : Result (Read (Written Length)) Fault) → deviation_or (a ++ b) (length a + i) (moved (move_read move_written) (length a) x) ≡ moved move_stay (length a) (deviation_or b i x)
+      go (Ok r) = simp (shifts, cond_push (moved (move_stay {A = Length}) (length a)))
+      go (Err e) = simp (outside_move, cond_push (moved (move_stay {A = Length}) (length a)))
+
+  lengths_shift : (name i : ℕ) → parse_shadow_lengths (a ++ b) (length a + name) (length a + i) ≡ moved move_stay (length a) (parse_shadow_lengths b name i)
+  unfolding parse_shadow_lengths
+  lengths_shift name i =
+      bind_moved move_stay move_stay (length a) (parse_filter_length b name i) _ _ _ (filter_length_shift name i) (λ dx.
+      let second = scan is_space b dx.next.0 in
+      simp scan_shift
+      (bind_moved move_stay move_stay (length a) (parse_filter_length b name second) _ _ _ (filter_length_shift name second) (λ dy.
+      let third = scan is_space b dy.next.0 in
+      simp scan_shift (bind_moved move_stay move_stay (length a) (parse_deviation b third) _ _ _ (deviation_shift third) (λ d. refl)))))
+
+  after_shift : (name i : ℕ) (c : Option Color) → shadow_after (a ++ b) (length a + name) (length a + i) c ≡ moved move_filter (length a) (shadow_after b name i c)
+  unfolding shadow_after
+  after_shift name i c = bind_moved move_stay move_filter (length a) (parse_shadow_lengths b name i) _ _ _ (lengths_shift name i) (λ r. refl)
+
+  before_shift : (name i : ℕ) → shadow_before (a ++ b) (length a + name) (length a + i) ≡ moved move_filter (length a) (shadow_before b name i)
+  unfolding shadow_before
+  before_shift name i =
+      bind_moved move_stay move_filter (length a) (parse_shadow_lengths b name i) _ _ _ (lengths_shift name i) (λ r.
+      bind_moved move_tried move_filter (length a) (try_parse_color b r.next.0) _ _ _ (try_shift r.next.0) (go r))
+    where
+      go : (r : Read ShadowLengths) (c : ColorRead)
+          → ◌≡◌ {A = Result (Read FilterValue) Fault}
+          (Ok (record { value = shadow (or_none (move_place (length a) r.next) (move_tried (length a) c)).value r.value; next = (or_none (move_place (length a) r.next) (move_tried (length a) c)).next }))
+          (Ok (move_filter (length a) (record { value = shadow (or_none r.next c).value r.value; next = (or_none r.next c).next })))
+      go r None = refl
+      go r (Some c) = refl
+
+  shadow_shift : (name i : ℕ) → parse_drop_shadow_func (a ++ b) (length a + name) (length a + i) ≡ moved move_filter (length a) (parse_drop_shadow_func b name i)
+  unfolding parse_drop_shadow_func
+  shadow_shift name i =
+      simp (curr_shift, cond_push (moved move_filter (length a)))
+      (same_else (is_curr_byte_eq b i 41) _ _ _ (bind_moved move_tried move_filter (length a) (try_parse_color b i) _ _ _ (try_shift i) go))
+    where
+      go : (c : ColorRead) → shadow_on (a ++ b) (length a + name) (length a + i) (move_tried (length a) c) ≡ moved move_filter (length a) (shadow_on b name i c)
+      go None = before_shift name i
+      go (Some c) = rw (scan_shift is_space a b c.next.0) (after_shift name (scan is_space b c.next.0) c.value)
+
+  argument_shift : (name end i : ℕ) → parse_argument (a ++ b) (length a + name) (length a + end) (length a + i) ≡ moved move_filter (length a) (parse_argument b name end i)
+  unfolding parse_argument
+  argument_shift name end i = rw (part_shift a b name end) (go (filter_name (part b name end)))
+    where
+      go : (x : Option FilterName) → argument_of x (a ++ b) (length a + name) (length a + i) ≡ moved move_filter (length a) (argument_of x b name i)
+      go (Some N.Blur) = blur_shift name i
+      go (Some N.DropShadow) = shadow_shift name i
+      go (Some N.HueRotate) = hue_shift name i
+      go (Some (N.Plain f)) = plain_shift name i f
+      go (Some N.Url) = url_shift name i
+      go None = simp shifts
+
+  close_shift : (i : ℕ) (v : FilterValue) → close_bracket (a ++ b) (length a + i) (move_filter_value (length a) v) ≡ moved move_filter (length a) (close_bracket b i v)
+  unfolding close_bracket
+  close_shift i v =
+      let right = scan is_space b i in
+      simp scan_shift (bind_moved move_place move_filter (length a) (consume_byte b right 41) _ _ _ (byte_shift a b right 41) (λ p. refl))
+
+  next_shift : (i : ℕ) → parse_next (a ++ b) (length a + i) ≡ moved move_filter (length a) (parse_next b i)
+  unfolding parse_next
   next_shift i =
-      simp (shifts, byte_shift, argument_shift, close_shift, consumed_move, filter_move, consumed_push (move_filter_read (length a)), filter_push (move_filter_read (length a)))
+      let end = scan is_ascii_ident b i in
+      let left = scan is_space b end in
+      simp scan_shift
+      (bind_moved move_place move_filter (length a) (consume_byte b left 40) _ _ _ (byte_shift a b left 40) (λ p.
+      let at = scan is_space b p.0 in
+      simp scan_shift (bind_moved move_filter move_filter (length a) (parse_argument b i end at) _ _ _ (argument_shift i end at) (λ r. close_shift r.next.0 r.value))))
 
-  none_shift : (i : ℕ) → after_none (a ++ b) (length a + i) ≡ move_step_read (length a) (after_none b i)
-  unfolding after_none bind
-  none_shift i = simp (shifts, cond_push (move_step_read (length a)))
+  none_shift : (i : ℕ) → after_none (a ++ b) (length a + i) ≡ moved move_step_read (length a) (after_none b i)
+  unfolding after_none
+  none_shift i = simp (shifts, cond_push (moved move_step_read (length a)))
 
-  pub step_shift : (i : ℕ) → parse_step (a ++ b) (length a + i) ≡ move_step_read (length a) (parse_step b i)
-  unfolding parse_step bind
-  step_shift i = simp (shifts, next_shift, none_shift, filter_move, filter_push (move_step_read (length a)), cond_push (move_step_read (length a)))
+  pub step_shift : (i : ℕ) → parse_step (a ++ b) (length a + i) ≡ moved move_step_read (length a) (parse_step b i)
+  unfolding parse_step
+  step_shift i =
+      let start = scan is_space b i in
+      simp (shifts, none_shift, cond_push (moved move_step_read (length a)))
+      (same_else (leb (length b) start) _ _ _ (same_else (starts_with (ascii "none") (drop start b)) _ _ _
+      (bind_moved move_filter move_step_read (length a) (parse_next b start) _ _ _ (next_shift start) (λ r. simp scan_shift))))

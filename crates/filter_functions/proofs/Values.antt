@@ -1,238 +1,291 @@
--- least: where the reading of a step's parts goes on, and what is known of a step's value.
+-- pass, least, and where a fault lies: where the reading of a step's parts goes on, and what is known of a step.
 use Prim.Native.Nat.{ℕ, ◌+◌, ◌-◌, ◌≤◌, ◌<◌}
-use mathlib.Core.Bool.{true, cond, ◌||◌}
+use mathlib.Core.Bool.{true, false, cond, ◌||◌}
 use mathlib.Core.List.{List}
-use mathlib.Core.Path.{◌≡◌, refl, ap}
+use mathlib.Core.Path.{◌≡◌, refl, sym, ap}
 use native.Mathlib.Omega.{arith}
 use borrow.Author.Tests.{leb-true, leb-false, eqb-true}
-use lib.Dec.{T, leb, leb→le}
+use lib.Dec.{T, leb, ltb, leb→le}
 use lib.Ieee.{eq}
 use lib.ListN.{length, get_or, drop, length-take}
+use Rattle.std.specs.Prelude.{Result, Ok, Err, Option, Some, None, MatchResult, MatchOption, ⊤}
 use Rattle.text_bytes.specs.Bytes.{is_space, is_ascii_ident, is_url_byte}
+use Rattle.text_bytes.specs.Flow.{◌>>=◌}
 use Rattle.text_bytes.specs.Moves.{place}
-use Rattle.text_bytes.specs.Flow.{bind}
-use Rattle.stream.specs.Refusals.{is_outside_domain}
 use Rattle.text_bytes.specs.Scan.{scan}
 use Rattle.text_bytes.specs.Words.{ascii, same, starts_with, part, is_curr_byte_eq}
-use Rattle.stream.specs.declared.Fault.{Fault}
 use Rattle.text_bytes.specs.declared.Place.{Place}
-use Rattle.text_bytes.proofs.Ahead.{scan_again}
+use Rattle.text_bytes.proofs.Ahead.{scan_again, word_stop}
 use Rattle.text_bytes.proofs.Ranges.{either}
-use Rattle.stream.proofs.Sames.{consume_all}
 use Rattle.text_bytes.proofs.Scans.{scan_ge, scan_le}
-use Rattle.text_bytes.proofs.Wording.{same_eq}
+use Rattle.text_bytes.proofs.Wording.{same_eq, word_inside}
+use Rattle.stream.specs.Faults.{trouble_at, invalid_value, consume_byte}
+use Rattle.stream.specs.Refusals.{Inside, number_of, is_outside_domain, admit_place}
+use Rattle.stream.specs.declared.Fault.{Fault}
+use Rattle.stream.specs.declared.Read.{Read}
+use Rattle.stream.specs.declared.Refusal.{Refusal}
+use Rattle.stream.specs.declared.Trouble.{Trouble}
+use Rattle.stream.specs.declared.Trouble.TheVariants as R
+use Rattle.stream.proofs.Binds.{bind_holds, at_ok, at_err, weaker}
+use Rattle.stream.proofs.Edges.{Placed, place_holds, refusal_inside}
+use Rattle.stream.proofs.Goes.{Goes, goes_trans, goes_here, goes_scan, Past}
+use Rattle.stream.proofs.Stretches.{Lies, LiesFrom, Took, byte_taken, trouble_lies, data_lies, value_lies}
 use Rattle.floats.specs.Floats.{d0, sign_of}
-use Rattle.numbers.proofs.Values.{number_all, percent_all}
+use Rattle.numbers.specs.Moves.{Number}
+use Rattle.numbers.specs.Number.{parse_number, parse_number_or_percent}
+use Rattle.numbers.specs.declared.Written.{Written}
+use Rattle.numbers.proofs.Values.{Taken, number_taken, percent_taken}
+use Rattle.length.specs.Lengths.{parse_length}
 use Rattle.length.specs.declared.Length.{Length}
-use Rattle.length.specs.declared.LengthRead.{LengthRead}
-use Rattle.length.specs.declared.LengthRead.TheVariants as E
-use Rattle.length.proofs.Values.{all_lengths, lengths_all, length_all}
-use Rattle.angle.specs.declared.AngleRead.{AngleRead}
-use Rattle.angle.specs.declared.AngleRead.TheVariants as A
-use Rattle.angle.proofs.Values.{all_angles, angles_all, unit_all}
-use Rattle.color.proofs.Values.{color_all}
-use Rattle.filter_functions.specs.Moves.{then_filter, then_tried, then_deviation, then_lengths}
-use Rattle.filter_functions.specs.Values.{is_percent, parse_filter_length, parse_filter_positive_length, parse_filter_angle, parse_blur, parse_hue_rotate, parse_generic_color_func, parse_url}
-use Rattle.filter_functions.specs.Shadow.{try_parse_color, parse_deviation, parse_shadow_lengths, shadow_after, shadow_before, parse_drop_shadow_func}
-use Rattle.filter_functions.specs.Filters.{plain_name, filter_name, argument_of, parse_argument, close_bracket, parse_next, after_none, parse_step}
+use Rattle.length.proofs.Values.{LengthTaken, length_taken}
+use Rattle.angle.specs.Angles.{parse_unit}
+use Rattle.angle.specs.declared.AngleUnit.{AngleUnit}
+use Rattle.angle.proofs.Values.{UnitTaken, unit_taken}
+use Rattle.color.specs.Color.{parse_color}
+use Rattle.color.specs.declared.Color.{Color}
+use Rattle.color.proofs.Values.{Ended, color_taken}
+use Rattle.filter_functions.specs.Values.{is_percent, parse_filter_length, parse_filter_positive_length, marked, parse_filter_angle, parse_blur, parse_hue_rotate, parse_generic_color_func, parse_url}
+use Rattle.filter_functions.specs.Shadow.{ColorRead, color_or, try_parse_color, deviation_or, parse_deviation, parse_shadow_lengths, shadow_after, or_none, shadow_before, shadow_on, parse_drop_shadow_func}
+use Rattle.stream.specs.Steps.{placed, edged}
+use Rattle.filter_functions.specs.Filters.{plain_name, plain_or, filter_name, argument_of, parse_argument, close_bracket, parse_next, after_none, parse_step, next_filter}
 use Rattle.filter_functions.specs.declared.FilterName.{FilterName}
 use Rattle.filter_functions.specs.declared.FilterName.TheVariants as N
-use Rattle.filter_functions.specs.declared.FilterRead.{FilterRead}
-use Rattle.filter_functions.specs.declared.FilterRead.TheVariants as F
 use Rattle.filter_functions.specs.declared.FilterValue.{FilterValue}
-use Rattle.filter_functions.specs.declared.StepRead.{StepRead}
-use Rattle.filter_functions.specs.declared.StepRead.TheVariants as S
-use Rattle.filter_functions.specs.declared.ShadowColor.{ShadowColor}
-use Rattle.filter_functions.specs.declared.ColorTry.{ColorTry}
-use Rattle.filter_functions.specs.declared.ColorTry.TheVariants as C
-use Rattle.filter_functions.specs.declared.DeviationRead.{DeviationRead}
-use Rattle.filter_functions.specs.declared.DeviationRead.TheVariants as D
-use Rattle.filter_functions.specs.declared.ShadowLengths.{ShadowLengths}
-use Rattle.filter_functions.specs.declared.ShadowLengths.TheVariants as L
+use Rattle.filter_functions.specs.declared.Listed.{Listed}
+use Rattle.filter_functions.specs.declared.Listed.TheVariants as I
 use Rattle.filter_functions.specs.declared.Plain.{Plain}
 use Rattle.filter_functions.specs.declared.Plain.TheVariants as P
+use Rattle.filter_functions.proofs.Others.{judges, Other, Others, outside_other, consume_other, number_other, percent_other, length_other}
 
--- P holds of what was read, if anything was
-abbrev all_filters : (FilterValue → Place → Type 0) → FilterRead → Type 0
-all_filters P (F.Value v p) = P v p
-all_filters P (F.Refused e) = T true
+-- from i a reader went n bytes or more, to j, and stayed inside. A shadow's first colour may pass a bracket, so that this is all that holds of every filter
+pub record Far (s : List ℕ) (n i j : ℕ) : Type 0 where
+  pub far : i + n ≤ j
+  pub inside : i ≤ length s → j ≤ length s
 
-abbrev all_tries : (ShadowColor → Place → Type 0) → ColorTry → Type 0
-all_tries P (C.Found c p) = P c p
-all_tries P C.Missing = T true
-all_tries P (C.Refused e) = T true
+pub far_goes : {s : List ℕ} {i j : ℕ} → Goes s i j → Far s 0 i j
+far_goes g = record { far = omega (arith, g.passes.grows); inside = g.inside }
 
-abbrev pub all_deviations : (Length → Place → Type 0) → DeviationRead → Type 0
-all_deviations P (D.Value l p) = P l p
-all_deviations P (D.Refused e) = T true
+pub far_trans : {s : List ℕ} {n i j k : ℕ} → Far s 0 i j → Far s n j k → Far s n i k
+far_trans v w = record { far = omega (arith, v.far, w.far); inside = λ h. w.inside (v.inside h) }
 
-abbrev pub all_offsets : (Length → Length → Length → Place → Type 0) → ShadowLengths → Type 0
-all_offsets P (L.Value dx dy d p) = P dx dy d p
-all_offsets P (L.Refused e) = T true
+far_scan : {s : List ℕ} {n i : ℕ} {p : Place} → Far s n i p.0 → Far s n i (scan is_space s p.0)
+far_scan {s} {n} {i} {p} v = record { far = omega (arith, v.far, scan_ge is_space s p.0); inside = λ h. scan_le is_space s p.0 (v.inside h) }
 
-filters_known : (P : FilterValue → Place → Type 0) (x : FilterRead) (v : FilterValue) (p : Place) → all_filters P x → x ≡ F.Value v p → P v p
-filters_known P x v p w e = rw e at w
+past_goes : {s : List ℕ} {i : ℕ} {p : Place} → Past s i p → Goes s i p.0
+past_goes t = record { passes = t.passes; inside = λ h. t.inside }
 
--- what holds of every refusal and of going on with whatever is read holds of going on
-module _ {B : Type 0} (P : B → Type 0) where
-  filters_all : (Q : FilterValue → Place → Type 0) (x : FilterRead) (out : Fault → B) (k : FilterValue → Place → B)
-      → all_filters Q x → ((e : Fault) → P (out e)) → ((v : FilterValue) (p : Place) → Q v p → P (k v p)) → P (then_filter out x k)
-  filters_all Q (F.Value v p) out k w f g = g v p w
-  filters_all Q (F.Refused e) out k w f g = f e
+goes_spaces : {s : List ℕ} {i : ℕ} {p : Place} → Goes s i p.0 → Goes s i (scan is_space s p.0)
+goes_spaces {s} {i} {p} g = goes_trans g (goes_scan s p.0 is_space refl)
 
-  tries_all : (Q : ShadowColor → Place → Type 0) (x : ColorTry) (out : Fault → B) (missing : B) (k : ShadowColor → Place → B)
-      → all_tries Q x → ((e : Fault) → P (out e)) → P missing → ((c : ShadowColor) (p : Place) → Q c p → P (k c p)) → P (then_tried out missing x k)
-  tries_all Q (C.Found c p) out missing k w f m g = g c p w
-  tries_all Q C.Missing out missing k w f m g = m
-  tries_all Q (C.Refused e) out missing k w f m g = f e
+-- a fault of reading at i in the brackets of the filter at `name`
+pub record FilterFault (s : List ℕ) (name i : ℕ) (e : Fault) : Type 0 where
+  pub lies : name ≤ i → i ≤ length s → Lies (length s) e
+  pub other : Other e
 
-  pub deviations_all : (Q : Length → Place → Type 0) (x : DeviationRead) (out : Fault → B) (k : Length → Place → B)
-      → all_deviations Q x → ((e : Fault) → P (out e)) → ((l : Length) (p : Place) → Q l p → P (k l p)) → P (then_deviation out x k)
-  deviations_all Q (D.Value l p) out k w f g = g l p w
-  deviations_all Q (D.Refused e) out k w f g = f e
-
-  offsets_all : (Q : Length → Length → Length → Place → Type 0) (x : ShadowLengths) (out : Fault → B) (k : Length → Length → Length → Place → B)
-      → all_offsets Q x → ((e : Fault) → P (out e)) → ((dx dy d : Length) (p : Place) → Q dx dy d p → P (k dx dy d p)) → P (then_lengths out x k)
-  offsets_all Q (L.Value dx dy d p) out k w f g = g dx dy d p w
-  offsets_all Q (L.Refused e) out k w f g = f e
-
--- what was read, if anything was, ends at i or after it
-abbrev LeastLength : ℕ → LengthRead → Type 0
-LeastLength i x = all_lengths (λ l n p. i ≤ p.0) x
-
-abbrev LeastAngle : ℕ → AngleRead → Type 0
-LeastAngle i x = all_angles (λ a n p. i ≤ p.0) x
-
-abbrev LeastTry : ℕ → ColorTry → Type 0
-LeastTry i x = all_tries (λ c p. i ≤ p.0) x
-
-abbrev LeastDeviation : ℕ → DeviationRead → Type 0
-LeastDeviation i x = all_deviations (λ l p. i ≤ p.0) x
-
-abbrev LeastOffsets : ℕ → ShadowLengths → Type 0
-LeastOffsets i x = all_offsets (λ dx dy d p. i ≤ p.0) x
-
-abbrev LeastFilter : ℕ → FilterRead → Type 0
-LeastFilter i x = all_filters (λ v p. i ≤ p.0) x
-
--- a reader ends where it starts or after that
-module _ (s : List ℕ) (i : ℕ) where
-  filter_length_least : (name at : ℕ) → i ≤ at → LeastLength i (parse_filter_length s name at)
-  unfolding parse_filter_length
-  filter_length_least name at h =
-      length_all (LeastLength i) s at E.Refused _ (λ e. tt) (λ l n p m k. either (is_percent l.unit) (λ e. simp e tt) (λ e. simp e (omega arith)))
-
-  positive_least : (name at : ℕ) → i ≤ at → LeastLength i (parse_filter_positive_length s name at)
-  unfolding parse_filter_positive_length
-  positive_least name at h =
-      length_all (LeastLength i) s at E.Refused _ (λ e. tt)
-      (λ l n p m k. either (sign_of l.number) (λ e. simp e tt)
-      (λ e. either (is_percent l.unit) (λ f. simp (e, f) tt) (λ f. simp (e, f) (omega arith))))
-
-  filter_angle_least : (name at : ℕ) → i ≤ at → LeastAngle i (parse_filter_angle s name at)
-  unfolding parse_filter_angle bind
-  filter_angle_least name at h =
-      let l : i ≤ scan is_space s at = omega (arith, scan_ge is_space s at) in
-      number_all (LeastAngle i) s (scan is_space s at) A.Refused _ (λ e. tt)
-      (λ n p m k. unit_all (LeastAngle i) s p.0 _ _
-      (either (eq n.value d0) (λ e. simp e (omega arith)) (λ e. simp e tt))
-      (λ u q v w. omega arith))
-
-  blur_least : (name at : ℕ) → i ≤ at → LeastFilter i (parse_blur s name at)
-  unfolding parse_blur
-  blur_least name at h =
-      either (is_curr_byte_eq s at 41) (λ e. simp e h)
-      (λ e. simp e (lengths_all (LeastFilter i) _ (parse_filter_positive_length s name at) F.Refused _ (positive_least name at h) (λ f. tt) (λ l n p m. m)))
-
-  hue_least : (name at : ℕ) → i ≤ at → LeastFilter i (parse_hue_rotate s name at)
-  unfolding parse_hue_rotate
-  hue_least name at h =
-      either (is_curr_byte_eq s at 41) (λ e. simp e h)
-      (λ e. simp e (angles_all (LeastFilter i) _ (parse_filter_angle s name at) F.Refused _ (filter_angle_least name at h) (λ f. tt) (λ a n p m. m)))
-
-  plain_least : (name at : ℕ) (f : Plain) → i ≤ at → LeastFilter i (parse_generic_color_func s name at f)
-  unfolding parse_generic_color_func bind
-  plain_least name at f h =
-      either (is_curr_byte_eq s at 41) (λ e. simp e h)
-      (λ e. simp e
-      (percent_all (LeastFilter i) s at F.Refused _ (λ g. tt) (λ n p m k. either (sign_of n.value) (λ g. simp g tt) (λ g. simp g (omega arith)))))
-
-  -- `#` and a byte at the least
-  url_least : (name at : ℕ) → i ≤ at + 2 → LeastFilter i (parse_url s name at)
-  unfolding parse_url bind
-  url_least name at h =
-      consume_all (LeastFilter i) s at 35 F.Refused _ (λ e. tt)
-      (λ e l. let end = scan is_url_byte s (at + 1) in
-      either (leb end (at + 1)) (λ f. simp f tt) (λ f. simp f (omega (arith, leb-false end (at + 1) f))))
-
-  try_least : (at : ℕ) → i ≤ at → LeastTry i (try_parse_color s at)
-  unfolding try_parse_color
-  try_least at h =
-      color_all (LeastTry i) s at _ _
-      (λ e. either (is_outside_domain e) (λ f. simp f tt)
-      (λ f. either (starts_with (ascii "currentColor") (drop at s)) (λ g. simp (f, g) (omega arith)) (λ g. simp (f, g) tt)))
-      (λ c p m k. omega arith)
-
-  deviation_least : (at : ℕ) → i ≤ at → LeastDeviation i (parse_deviation s at)
-  unfolding parse_deviation bind
-  deviation_least at h =
-      length_all (LeastDeviation i) s at _ _ (λ e. either (is_outside_domain e) (λ f. simp f tt) (λ f. simp f h))
-      (λ l n p m k. either (sign_of l.number || is_percent l.unit) (λ f. simp f (omega arith)) (λ f. simp f (omega (arith, scan_ge is_space s p.0))))
-
-  offsets_least : (name at : ℕ) → i ≤ at → LeastOffsets i (parse_shadow_lengths s name at)
-  unfolding parse_shadow_lengths bind
-  offsets_least name at h =
-      lengths_all (LeastOffsets i) _ (parse_filter_length s name at) L.Refused _ (filter_length_least name at h) (λ e. tt)
-      (λ dx n p m. let j = scan is_space s p.0 in
-      lengths_all (LeastOffsets i) _ (parse_filter_length s name j) L.Refused _ (filter_length_least name j (omega (arith, scan_ge is_space s p.0))) (λ e. tt)
-      (λ dy o q k. let r = scan is_space s q.0 in
-      deviations_all (LeastOffsets i) _ (parse_deviation s r) L.Refused _ (deviation_least r (omega (arith, scan_ge is_space s q.0))) (λ e. tt) (λ d t l. l)))
-
-  shadow_after_least : (name at : ℕ) (c : ShadowColor) → i ≤ at → LeastFilter i (shadow_after s name at c)
-  unfolding shadow_after
-  shadow_after_least name at c h = offsets_all (LeastFilter i) _ (parse_shadow_lengths s name at) F.Refused _ (offsets_least name at h) (λ e. tt) (λ dx dy d p m. m)
-
-  before_least : (name at : ℕ) → i ≤ at → LeastFilter i (shadow_before s name at)
-  unfolding shadow_before
-  before_least name at h =
-      offsets_all (LeastFilter i) _ (parse_shadow_lengths s name at) F.Refused _ (offsets_least name at h) (λ e. tt)
-      (λ dx dy d p m. tries_all (LeastFilter i) _ (try_parse_color s p.0) F.Refused _ _ (try_least p.0 m) (λ e. tt) m (λ c q k. k))
-
-  shadow_least : (name at : ℕ) → i ≤ at → LeastFilter i (parse_drop_shadow_func s name at)
-  unfolding parse_drop_shadow_func bind
-  shadow_least name at h =
-      either (is_curr_byte_eq s at 41) (λ e. simp e tt)
-      (λ e. simp e
-      (tries_all (LeastFilter i) _ (try_parse_color s at) F.Refused _ _ (try_least at h) (λ f. tt) (before_least name at h)
-      (λ c p m. shadow_after_least name (scan is_space s p.0) c (omega (arith, scan_ge is_space s p.0)))))
+-- the same, where reading went on from i
+fault_on : {s : List ℕ} {name i j : ℕ} {e : Fault} → Far s 0 i j → FilterFault s name j e → FilterFault s name i e
+fault_on g w = record { lies = λ n l. w.lies (omega (arith, g.far)) (g.inside l); other = w.other }
 
 -- how many bytes the brackets hold at the least: a link two. What an unknown name's hold is never read, so that any number is right
-abbrev holds : FilterName → ℕ
-holds N.Blur = 0
-holds N.DropShadow = 0
-holds N.HueRotate = 0
-holds (N.Plain f) = 0
-holds N.Url = 2
-holds N.Unknown = 4
+abbrev holds : Option FilterName → ℕ
+holds (Some N.Blur) = 0
+holds (Some N.DropShadow) = 0
+holds (Some N.HueRotate) = 0
+holds (Some (N.Plain f)) = 0
+holds (Some N.Url) = 2
+holds None = 4
+
+module _ (s : List ℕ) (name : ℕ) where
+  -- a fault of a reader that knows no name
+  lower : {A : Type 0} (P : A → Type 0) (i : ℕ) (r : Result A Fault) → MatchResult r P (LiesFrom s i) → Others r → MatchResult r P (FilterFault s name i)
+  lower P i (Ok x) v o = v
+  lower P i (Err e) v o = record { lies = λ n l. (v l).lies; other = o }
+
+  -- what is refused from the name on
+  named_lies : (t : Trouble) (at p : ℕ) {i : ℕ} → leb (number_of t) 5 ≡ false → judges (number_of t) ≡ false → Far s 0 i p → FilterFault s name i (trouble_at t at name p)
+  named_lies t at p q o g = record { lies = λ n l. trouble_lies t at name p q (omega (arith, g.far)) (g.inside l); other = o }
+
+  -- a step from j, to which reading has gone from i
+  step : {A B : Type 0} (P : A → Type 0) (Q : B → Type 0) (i : ℕ) {j : ℕ} (r : Result A Fault) (f : A → Result B Fault) → Far s 0 i j
+      → MatchResult r P (FilterFault s name j) → ((x : A) → P x → MatchResult (f x) Q (FilterFault s name i)) → MatchResult (r >>= f) Q (FilterFault s name i)
+  step P Q i {j} r f g v k =
+      bind_holds P Q (FilterFault s name i) r f (weaker P P (FilterFault s name j) (FilterFault s name i) r v (λ x p. p) (λ e w. fault_on g w)) k
+
+  module _ (i : ℕ) where
+    here : Far s 0 i i
+    here = record { far = omega arith; inside = λ h. h }
+
+    abbrev pub Went : {A : Type 0} → Result (Read A) Fault → Type 0
+    Went x = MatchResult x (λ r. Goes s i r.next.0) (FilterFault s name i)
+
+    abbrev pub Reached : ℕ → Result (Read FilterValue) Fault → Type 0
+    Reached n x = MatchResult x (λ r. Far s n i r.next.0) (FilterFault s name i)
+
+    pub filter_length_went : Went (parse_filter_length s name i)
+    unfolding parse_filter_length number_of
+    filter_length_went =
+        step (LengthTaken s i) (λ r. Goes s i r.next.0) i (parse_length s i) _ here (lower (LengthTaken s i) i (parse_length s i) (length_taken s i) (length_other s i))
+        (λ r t. let g = past_goes t.past in
+        either (is_percent r.value.value.unit) (λ e. simp e (named_lies R.PercentageValue i r.next.0 refl refl (far_goes g))) (λ e. simp e g))
+
+    positive_went : Went (parse_filter_positive_length s name i)
+    unfolding parse_filter_positive_length number_of
+    positive_went =
+        step (LengthTaken s i) (λ r. Goes s i r.next.0) i (parse_length s i) _ here (lower (LengthTaken s i) i (parse_length s i) (length_taken s i) (length_other s i))
+        (λ r t. let g = past_goes t.past in
+        either (sign_of r.value.value.number) (λ e. simp e (named_lies R.NegativeValue i r.next.0 refl refl (far_goes g)))
+        (λ e. either (is_percent r.value.value.unit) (λ f. simp (e, f) (named_lies R.PercentageValue i r.next.0 refl refl (far_goes g))) (λ f. simp (e, f) g)))
+
+    filter_angle_went : Went (parse_filter_angle s name i)
+    unfolding parse_filter_angle number_of
+    filter_angle_went =
+        let start = scan is_space s i in
+        let k : Goes s i start = goes_scan s i is_space refl in
+        step (Taken s start) (λ r. Goes s i r.next.0) i (parse_number s start) _ (far_goes k) (lower (Taken s start) start (parse_number s start) (number_taken s start) (number_other s start))
+        (λ r t. let g = goes_trans k (past_goes t.past) in go start r g (parse_unit s r.next.0) (unit_taken s r.next.0))
+      where
+        go : (start : ℕ) (r : Read Number) → Goes s i r.next.0 → (u : Option (Read AngleUnit)) → MatchOption u ⊤ (UnitTaken s r.next.0) → Went (marked start name r u)
+        go start r g None v = either (eq r.value.value d0) (λ e. simp e g) (λ e. simp e (named_lies R.InvalidAngle start r.next.0 refl refl (far_goes g)))
+        go start r g (Some u) v = goes_trans g (past_goes v.past)
+
+    pub tried_holds : MatchResult (try_parse_color s i) (λ o. MatchOption o ⊤ (λ c. Far s 0 i c.next.0)) (FilterFault s name i)
+    unfolding try_parse_color
+    tried_holds = go (parse_color s i) (color_taken s i)
+      where
+        go : (x : Result (Read Color) Fault) → MatchResult x (λ r. Ended s i r.next) (LiesFrom s i) → MatchResult (color_or s i x) (λ o. MatchOption o ⊤ (λ c. Far s 0 i c.next.0)) (FilterFault s name i)
+        go (Ok c) v = record { far = omega (arith, v.least); inside = λ h. v.inside }
+        go (Err e) v =
+            either (is_outside_domain e) (λ t. let w : FilterFault s name i e = record { lies = λ n l. (v l).lies; other = outside_other e t } in simp t w)
+            (λ t. either (starts_with (ascii "currentColor") (drop i s))
+            (λ u. let w : Far s 0 i (i + 12) = record { far = omega arith; inside = λ h. word_inside 99 _ s i true refl (sym u) } in simp (t, u) w)
+            (λ u. simp (t, u) tt))
+
+    pub deviation_went : Went (parse_deviation s i)
+    unfolding parse_deviation
+    deviation_went = go (parse_length s i) (lower (LengthTaken s i) i (parse_length s i) (length_taken s i) (length_other s i))
+      where
+        go : (x : Result (Read (Written Length)) Fault) → MatchResult x (LengthTaken s i) (FilterFault s name i) → Went (deviation_or s i x)
+        go (Ok r) t =
+            let g = past_goes t.past in
+            either (sign_of r.value.value.number || is_percent r.value.value.unit) (λ e. simp e g) (λ e. simp e (goes_spaces g))
+        go (Err e) v = either (is_outside_domain e) (λ t. simp t v) (λ t. simp t (goes_here s i))
+
+module _ (s : List ℕ) (name i : ℕ) where
+  pub lengths_went : Went s name i (parse_shadow_lengths s name i)
+  unfolding parse_shadow_lengths
+  lengths_went =
+      step s name (λ r. Goes s i r.next.0) (λ r. Goes s i r.next.0) i (parse_filter_length s name i) _ (here s name i) (filter_length_went s name i) (λ dx t.
+      let second = scan is_space s dx.next.0 in
+      let g : Goes s i second = goes_spaces t in
+      step s name (λ r. Goes s second r.next.0) (λ r. Goes s i r.next.0) i (parse_filter_length s name second) _ (far_goes g) (filter_length_went s name second) (λ dy u.
+      let third = scan is_space s dy.next.0 in
+      let h : Goes s i third = goes_trans g (goes_spaces u) in
+      step s name (λ r. Goes s third r.next.0) (λ r. Goes s i r.next.0) i (parse_deviation s third) _ (far_goes h) (deviation_went s name third) (λ d v. goes_trans h v)))
+
+  blur_reached : Reached s name i 0 (parse_blur s name i)
+  unfolding parse_blur
+  blur_reached =
+      either (is_curr_byte_eq s i 41) (λ e. simp e (here s name i))
+      (λ e. simp e
+      (step s name (λ r. Goes s i r.next.0) (λ r. Far s 0 i r.next.0) i (parse_filter_positive_length s name i) _ (here s name i) (positive_went s name i) (λ r g. far_goes g)))
+
+  hue_reached : Reached s name i 0 (parse_hue_rotate s name i)
+  unfolding parse_hue_rotate
+  hue_reached =
+      either (is_curr_byte_eq s i 41) (λ e. simp e (here s name i))
+      (λ e. simp e
+      (step s name (λ r. Goes s i r.next.0) (λ r. Far s 0 i r.next.0) i (parse_filter_angle s name i) _ (here s name i) (filter_angle_went s name i) (λ r g. far_goes g)))
+
+  plain_reached : (f : Plain) → Reached s name i 0 (parse_generic_color_func s name i f)
+  unfolding parse_generic_color_func number_of
+  plain_reached f =
+      either (is_curr_byte_eq s i 41) (λ e. simp e (here s name i))
+      (λ e. simp e
+      (step s name (Taken s i) (λ r. Far s 0 i r.next.0) i (parse_number_or_percent s i) _ (here s name i) (lower s name (Taken s i) i (parse_number_or_percent s i) (percent_taken s i) (percent_other s i))
+      (λ r t. let g = far_goes (past_goes t.past) in
+      either (sign_of r.value.value) (λ u. simp u (named_lies s name R.NegativeValue i r.next.0 refl refl g)) (λ u. simp u g))))
+
+  -- `#` and a byte at the least
+  url_reached : Reached s name i 2 (parse_url s name i)
+  unfolding parse_url number_of
+  url_reached =
+      step s name (Took s i 35) (λ r. Far s 2 i r.next.0) i (consume_byte s i 35) _ (here s name i) (lower s name (Took s i 35) i (consume_byte s i 35) (byte_taken s i 35) (consume_other s i 35))
+      (λ p t.
+      let end = scan is_url_byte s p.0 in
+      let g : Far s 0 i p.0 = record { far = omega (arith, t.next); inside = λ h. omega (arith, t.next, t.inside) } in
+      either (leb end p.0) (λ e. simp e (named_lies s name R.InvalidUrl name p.0 refl refl g))
+      (λ e.
+      let w : Far s 2 i end = record { far = omega (arith, t.next, leb-false end p.0 e); inside = λ h. scan_le is_url_byte s p.0 (g.inside h) } in
+      simp e w))
+
+  after_reached : (c : Option Color) → Reached s name i 0 (shadow_after s name i c)
+  unfolding shadow_after
+  after_reached c =
+      step s name (λ r. Goes s i r.next.0) (λ r. Far s 0 i r.next.0) i (parse_shadow_lengths s name i) _ (here s name i) lengths_went (λ r g. far_goes g)
+
+  before_reached : Reached s name i 0 (shadow_before s name i)
+  unfolding shadow_before
+  before_reached =
+      step s name (λ r. Goes s i r.next.0) (λ r. Far s 0 i r.next.0) i (parse_shadow_lengths s name i) _ (here s name i) lengths_went (λ r g.
+      step s name (λ o. MatchOption o ⊤ (λ c. Far s 0 r.next.0 c.next.0)) (λ r. Far s 0 i r.next.0) i (try_parse_color s r.next.0) _ (far_goes g) (tried_holds s name r.next.0) (go r.next (far_goes g)))
+    where
+      go : (p : Place) → Far s 0 i p.0 → (c : ColorRead) → MatchOption c ⊤ (λ d. Far s 0 p.0 d.next.0) → Far s 0 i (or_none p c).next.0
+      go p g None v = g
+      go p g (Some c) v = far_trans g v
+
+module _ (s : List ℕ) (name i : ℕ) where
+  shadow_reached : Reached s name i 0 (parse_drop_shadow_func s name i)
+  unfolding parse_drop_shadow_func number_of
+  shadow_reached =
+      either (is_curr_byte_eq s i 41) (λ e. simp e (named_lies s name R.MissingDropShadowOffset i i refl refl (here s name i)))
+      (λ e. simp e
+      (step s name (λ o. MatchOption o ⊤ (λ c. Far s 0 i c.next.0)) (λ r. Far s 0 i r.next.0) i (try_parse_color s i) _ (here s name i) (tried_holds s name i) go))
+    where
+      go : (c : ColorRead) → MatchOption c ⊤ (λ d. Far s 0 i d.next.0) → Reached s name i 0 (shadow_on s name i c)
+      go None v = before_reached s name i
+      go (Some c) v =
+          let at = scan is_space s c.next.0 in
+          let g : Far s 0 i at = far_scan v in
+          weaker (λ r. Far s 0 at r.next.0) (λ r. Far s 0 i r.next.0) (FilterFault s name at) (FilterFault s name i) (shadow_after s name at c.value) (after_reached s name at c.value)
+          (λ r w. far_trans g w) (λ e w. fault_on g w)
+
+  argument_of_reached : (f : Option FilterName) → Reached s name i (holds f) (argument_of f s name i)
+  unfolding number_of
+  argument_of_reached (Some N.Blur) = blur_reached s name i
+  argument_of_reached (Some N.DropShadow) = shadow_reached
+  argument_of_reached (Some N.HueRotate) = hue_reached s name i
+  argument_of_reached (Some (N.Plain f)) = plain_reached s name i f
+  argument_of_reached (Some N.Url) = url_reached s name i
+  argument_of_reached None = record { lies = λ n l. (data_lies s name (omega arith)).lies; other = refl }
+
+  argument_reached : (end : ℕ) → Reached s name i (holds (filter_name (part s name end))) (parse_argument s name end i)
+  unfolding parse_argument
+  argument_reached end = argument_of_reached (filter_name (part s name end))
 
 module _ (w : List ℕ) where
   -- a word that is tried, else y
-  name_try : (word : List ℕ) (f y : FilterName) → T (leb 4 (length word + holds f)) → 4 ≤ length w + holds y → 4 ≤ length w + holds (cond (same w word) f y)
+  name_try : (word : List ℕ) (f : FilterName) (y : Option FilterName) → T (leb 4 (length word + holds (Some f))) → 4 ≤ length w + holds y → 4 ≤ length w + holds (cond (same w word) (Some f) y)
   name_try word f y t h =
       either (same w word)
-      (λ e. let k : length w ≡ length word = ap length (same_eq w word e) in simp e (omega (arith, leb→le 4 (length word + holds f) t)))
+      (λ e. let k : length w ≡ length word = ap length (same_eq w word e) in simp e (omega (arith, leb→le 4 (length word + holds (Some f)) t)))
       (λ e. simp e h)
 
-  plain_holds : 4 ≤ length w + holds (plain_name w)
+  plain_try : (word : List ℕ) (f : Plain) (y : Option Plain) → T (leb 4 (length word)) → 4 ≤ length w + holds (plain_or y) → 4 ≤ length w + holds (plain_or (cond (same w word) (Some f) y))
+  plain_try word f y t h =
+      either (same w word)
+      (λ e. let k : length w ≡ length word = ap length (same_eq w word e) in simp e (omega (arith, leb→le 4 (length word) t)))
+      (λ e. simp e h)
+
+  plain_holds : 4 ≤ length w + holds (plain_or (plain_name w))
   unfolding plain_name
   plain_holds =
-      name_try (ascii "brightness") (N.Plain P.Brightness) _ tt
-      (name_try (ascii "contrast") (N.Plain P.Contrast) _ tt
-      (name_try (ascii "grayscale") (N.Plain P.Grayscale) _ tt
-      (name_try (ascii "invert") (N.Plain P.Invert) _ tt
-      (name_try (ascii "opacity") (N.Plain P.Opacity) _ tt
-      (name_try (ascii "saturate") (N.Plain P.Saturate) _ tt
-      (name_try (ascii "sepia") (N.Plain P.Sepia) N.Unknown tt (omega arith)))))))
+      plain_try (ascii "brightness") P.Brightness _ tt
+      (plain_try (ascii "contrast") P.Contrast _ tt
+      (plain_try (ascii "grayscale") P.Grayscale _ tt
+      (plain_try (ascii "invert") P.Invert _ tt
+      (plain_try (ascii "opacity") P.Opacity _ tt
+      (plain_try (ascii "saturate") P.Saturate _ tt
+      (plain_try (ascii "sepia") P.Sepia None tt (omega arith)))))))
 
   name_holds : 4 ≤ length w + holds (filter_name w)
   unfolding filter_name
@@ -240,31 +293,22 @@ module _ (w : List ℕ) where
       name_try (ascii "blur") N.Blur _ tt
       (name_try (ascii "drop-shadow") N.DropShadow _ tt
       (name_try (ascii "hue-rotate") N.HueRotate _ tt
-      (name_try (ascii "url") N.Url (plain_name w) tt plain_holds)))
+      (name_try (ascii "url") N.Url (plain_or (plain_name w)) tt plain_holds)))
 
 part_le : (s : List ℕ) (i e : ℕ) → length (part s i e) ≤ e - i
 unfolding part
 part_le s i e = simp length-take (omega arith)
 
-module _ (s : List ℕ) (i : ℕ) where
-  argument_of_least : (f : FilterName) (name at : ℕ) → i ≤ at + holds f → LeastFilter i (argument_of f s name at)
-  argument_of_least N.Blur name at h = blur_least s i name at (omega arith)
-  argument_of_least N.DropShadow name at h = shadow_least s i name at (omega arith)
-  argument_of_least N.HueRotate name at h = hue_least s i name at (omega arith)
-  argument_of_least (N.Plain f) name at h = plain_least s i name at f (omega arith)
-  argument_of_least N.Url name at h = url_least s i name at h
-  argument_of_least N.Unknown name at h = tt
-
-  argument_holds : (name end at : ℕ) → i ≤ at + holds (filter_name (part s name end)) → LeastFilter i (parse_argument s name end at)
-  unfolding parse_argument bind
-  argument_holds name end at h = argument_of_least (filter_name (part s name end)) name at h
-
 -- the same, of what is known
-pub after_least : (s : List ℕ) (name at : ℕ) (c : ShadowColor) (i : ℕ) → i ≤ at → (v : FilterValue) (q : Place) → shadow_after s name at c ≡ F.Value v q → i ≤ q.0
-after_least s name at c i h v q e = filters_known (λ v q. i ≤ q.0) (shadow_after s name at c) v q (shadow_after_least s i name at c h) e
+module _ (s : List ℕ) (name i : ℕ) (r : Read FilterValue) where
+  pub after_least : (c : Option Color) → shadow_after s name i c ≡ Ok r → i ≤ r.next.0
+  after_least c e = let v = at_ok (λ x. Far s 0 i x.next.0) (FilterFault s name i) (shadow_after s name i c) r (after_reached s name i c) e in omega (arith, v.far)
 
-pub argument_least : (s : List ℕ) (name end at : ℕ) (v : FilterValue) (q : Place) → parse_argument s name end at ≡ F.Value v q → at ≤ q.0
-argument_least s name end at v q e = filters_known (λ v q. at ≤ q.0) (parse_argument s name end at) v q (argument_holds s at name end at (omega arith)) e
+  pub argument_least : (end : ℕ) → parse_argument s name end i ≡ Ok r → i ≤ r.next.0
+  argument_least end e =
+      let n = holds (filter_name (part s name end)) in
+      let v = at_ok (λ x. Far s n i x.next.0) (FilterFault s name i) (parse_argument s name end i) r (argument_reached s name i end) e in
+      omega (arith, v.far)
 
 -- A value read at i ends at p, right after its closing bracket; it has at least the six bytes of `blur()`
 record Closed (s : List ℕ) (i : ℕ) (p : Place) : Type 0 where
@@ -274,28 +318,27 @@ record Closed (s : List ℕ) (i : ℕ) (p : Place) : Type 0 where
   short : close < length s
   after : p.0 ≡ close + 1
 
-module _ (s : List ℕ) (i : ℕ) where
-  abbrev Closes : FilterRead → Type 0
-  Closes x = all_filters (λ v p. Closed s i p) x
-
-  close_closed : (at : ℕ) (v : FilterValue) → i + 5 ≤ at → Closes (close_bracket s at v)
-  unfolding close_bracket bind
-  close_closed at v h =
-      let close = scan is_space s at in
-      consume_all Closes s close 41 F.Refused _ (λ e. tt)
-      (λ e l. record { close = close; five = omega (arith, scan_ge is_space s at); shut = eqb-true _ _ e; short = l; after = refl })
-
-  next_closed : Closes (parse_next s i)
-  unfolding parse_next bind
-  next_closed =
-      let end = scan is_ascii_ident s i in
-      let left = scan is_space s end in
-      let at = scan is_space s (left + 1) in
-      let h : i + 5 ≤ at + holds (filter_name (part s i end)) =
-      omega (arith, name_holds (part s i end), part_le s i end, scan_ge is_ascii_ident s i, scan_ge is_space s end, scan_ge is_space s (left + 1)) in
-      consume_all Closes s left 40 F.Refused _ (λ e. tt)
-      (λ e l. filters_all Closes (λ v p. i + 5 ≤ p.0) (parse_argument s i end at) F.Refused _ (argument_holds s (i + 5) i end at h) (λ f. tt)
-      (λ v q m. close_closed q.0 v m))
+next_closed : (s : List ℕ) (i : ℕ) → MatchResult (parse_next s i) (λ r. Closed s i r.next) (FilterFault s i i)
+unfolding parse_next close_bracket
+next_closed s i =
+    let end = scan is_ascii_ident s i in
+    let left = scan is_space s end in
+    let f = filter_name (part s i end) in
+    let g : Far s 0 i left = far_goes (goes_trans (goes_scan s i is_ascii_ident word_stop) (goes_scan s end is_space refl)) in
+    step s i (Took s left 40) (λ r. Closed s i r.next) i (consume_byte s left 40) _ g (lower s i (Took s left 40) left (consume_byte s left 40) (byte_taken s left 40) (consume_other s left 40)) (λ p t.
+    let at = scan is_space s p.0 in
+    let h : Far s 0 i at = record { far = omega (arith, g.far, t.next, scan_ge is_space s p.0); inside = λ l. scan_le is_space s p.0 (omega (arith, t.next, t.inside)) } in
+    step s i (λ r. Far s (holds f) at r.next.0) (λ r. Closed s i r.next) i (parse_argument s i end at) _ h (argument_reached s i at end) (λ r v.
+    let close = scan is_space s r.next.0 in
+    let k : Far s 0 i close = record { far = omega (arith, h.far, v.far, scan_ge is_space s r.next.0); inside = λ l. scan_le is_space s r.next.0 (v.inside (h.inside l)) } in
+    step s i (Took s close 41) (λ x. Closed s i x.next) i (consume_byte s close 41) _ k (lower s i (Took s close 41) close (consume_byte s close 41) (byte_taken s close 41) (consume_other s close 41)) (λ q u.
+    record {
+      close = close;
+      five = omega (arith, name_holds (part s i end), part_le s i end, scan_ge is_ascii_ident s i, scan_ge is_space s end, t.next, scan_ge is_space s p.0, v.far, scan_ge is_space s r.next.0);
+      shut = eqb-true (get_or s close 0) 41 u.byte;
+      short = u.inside;
+      after = u.next;
+    })))
 
 -- A step's value read at i, and the spaces after its closing bracket
 pub record Stepped (s : List ℕ) (i : ℕ) (p : Place) : Type 0 where
@@ -306,20 +349,33 @@ pub record Stepped (s : List ℕ) (i : ℕ) (p : Place) : Type 0 where
   pub short : close < length s
   pub next : p.0 ≡ scan is_space s (close + 1)
 
--- P holds of a value, and E of the end
-abbrev all_steps : (FilterValue → Place → Type 0) → Type 0 → StepRead → Type 0
-all_steps P E (S.Value v p) = P v p
-all_steps P E S.End = E
-all_steps P E S.NoneWord = T true
-all_steps P E (S.Refused e) = T true
+-- where a step says that nothing is left, at most spaces are; and the list place is the end of the text
+pub record Ends (s : List ℕ) (i : ℕ) (p : Place) : Type 0 where
+  pub spaces : length s ≤ scan is_space s i
+  pub end : p ≡ place (length s)
+
+abbrev pub Says : List ℕ → ℕ → Listed → Place → Type 0
+Says s i (I.Value v) p = Stepped s i p
+Says s i I.End p = Ends s i p
+Says s i I.NoneWord p = p ≡ place (length s)
+
+-- Its fault: none by 1 to 3 and none by 8, and inside
+pub record StepFault (s : List ℕ) (i : ℕ) (e : Fault) : Type 0 where
+  pub lies : i ≤ length s → Lies (length s) e
+  pub other : Other e
 
 module _ (s : List ℕ) (i : ℕ) where
-  abbrev Steps : StepRead → Type 0
-  Steps x = all_steps (λ v p. Stepped s i p) (length s ≤ scan is_space s i) x
+  -- of what a step comes to
+  abbrev pub Steps : Result (Read Listed) Fault → Type 0
+  Steps x = MatchResult x (λ r. Says s i r.value r.next) (StepFault s i)
 
-  none_steps : (at : ℕ) → Steps (after_none s at)
-  unfolding after_none bind
-  none_steps at = either (leb (length s) (scan is_space s at)) (λ e. simp e tt) (λ e. simp e tt)
+  none_steps : (at : ℕ) → (i ≤ length s → at ≤ length s) → Steps (after_none s at)
+  unfolding after_none number_of
+  none_steps at g =
+      let j = scan is_space s at in
+      either (ltb j (length s))
+      (λ e. let w : StepFault s i (invalid_value j) = record { lies = λ l. (value_lies j (scan_le is_space s at (g l))).lies; other = refl } in simp e w)
+      (λ e. simp e refl)
 
   stepped : (p : Place) → Closed s (scan is_space s i) p → Stepped s i (place (scan is_space s p.0))
   stepped p c =
@@ -333,22 +389,34 @@ module _ (s : List ℕ) (i : ℕ) where
         next = ap (λ (x : ℕ). scan is_space s x) c.after;
       }
 
-  step_steps : Steps (parse_step s i)
-  unfolding parse_step bind
-  step_steps =
+  pub step_says : Steps (parse_step s i)
+  unfolding parse_step
+  step_says =
       let start = scan is_space s i in
-      either (leb (length s) start) (λ e. simp e (leb-true (length s) start e))
-      (λ e. either (starts_with (ascii "none") (drop start s)) (λ f. simp (e, f) (none_steps (start + 4)))
-      (λ f. simp (e, f) (filters_all Steps _ (parse_next s start) S.Refused _ (next_closed s start) (λ g. tt) (λ v p c. stepped p c))))
+      either (leb (length s) start)
+      (λ e. let w : Ends s i (place (length s)) = record { spaces = leb-true (length s) start e; end = refl } in simp e w)
+      (λ e. either (starts_with (ascii "none") (drop start s))
+      (λ f. simp (e, f) (none_steps (start + 4) (λ l. word_inside 110 _ s start true refl (sym f))))
+      (λ f. simp (e, f)
+      (bind_holds (λ r. Closed s start r.next) (λ r. Says s i r.value r.next) (StepFault s i) (parse_next s start) _
+      (weaker (λ r. Closed s start r.next) (λ r. Closed s start r.next) (FilterFault s start start) (StepFault s i) (parse_next s start) (next_closed s start)
+      (λ r c. c) (λ e v. record { lies = λ l. v.lies (omega arith) (scan_le is_space s i l); other = v.other }))
+      (λ r c. stepped r.next c))))
 
-  pub step_known : (v : FilterValue) (p : Place) → parse_step s i ≡ S.Value v p → Stepped s i p
-  step_known v p e = let w : Steps (parse_step s i) = step_steps in rw e at w
-
-  -- where the step says that nothing is left, at most spaces are
-  pub step_end : parse_step s i ≡ S.End → length s ≤ scan is_space s i
-  step_end e = let w : Steps (parse_step s i) = step_steps in rw e at w
+  pub step_known : (r : Read Listed) → parse_step s i ≡ Ok r → Says s i r.value r.next
+  step_known r e = at_ok (λ x. Says s i x.value x.next) (StepFault s i) (parse_step s i) r step_says e
 
   -- a step passes spaces first
   pub step_spaces : parse_step s (scan is_space s i) ≡ parse_step s i
   unfolding parse_step
-  step_spaces = rw (scan_again is_space s i)
+  step_spaces = rw (scan_again is_space s i) refl
+
+-- THEOREM. A refusal's stretch starts and ends in the lent text, and not before it starts
+pub stretch_inside : (s : List ℕ) (i : ℕ) (e : Refusal) → (next_filter s i).item ≡ Err e → Inside (length s) e
+unfolding next_filter
+stretch_inside s i e q = at_err (λ x. ⊤) (Inside (length s)) (next_filter s i).item e (go (admit_place s i) (parse_step s i) (place_holds s i) (step_says s i)) q
+  where
+    go : (x : Result (Unit {0}) Refusal) (y : Result (Read Listed) Fault) → MatchResult x (λ u. Placed s i) (Inside (length s)) → Steps s i y → MatchResult (placed i x (edged s y)).item (λ l. ⊤) (Inside (length s))
+    go (Ok u) (Ok r) v w = tt
+    go (Ok u) (Err f) v w = refusal_inside s (w.lies v.inside)
+    go (Err f) y v w = v

@@ -1,91 +1,107 @@
--- One step of a filter list. Quotations are of document 01.
-use Rattle.std.specs.Prelude.{ℕ, ◌+◌, cond, List, leb, length, drop}
+-- One step of a filter list. What stands in quotation marks is the rule.
+use Rattle.std.specs.Prelude.{ℕ, ◌+◌, List, leb, ltb, length, drop, Result, Ok, Err, Option, Some, None, if◌then◌else◌}
 use Rattle.text_bytes.specs.Bytes.{is_space, is_ascii_ident}
+use Rattle.text_bytes.specs.Flow.{◌>>=◌}
 use Rattle.text_bytes.specs.Moves.{place}
-use Rattle.stream.specs.Faults.{invalid_value, unexpected_data, consume_byte}
-use Rattle.text_bytes.specs.Flow.{bind}
-use Rattle.stream.specs.Moves.{then_consumed}
-use Rattle.stream.specs.Refusals.{refusal_of, admit_place, then_admitted}
 use Rattle.text_bytes.specs.Scan.{scan}
 use Rattle.text_bytes.specs.Words.{ascii, same, starts_with, part}
-use Rattle.filter_functions.specs.Moves.{then_filter, then_step}
+use Rattle.text_bytes.specs.declared.Place.{Place}
+use Rattle.stream.specs.Faults.{invalid_value, unexpected_data, consume_byte}
+use Rattle.stream.specs.Refusals.{admit_place}
+use Rattle.stream.specs.Steps.{placed, edged}
+use Rattle.stream.specs.declared.Fault.{Fault}
+use Rattle.stream.specs.declared.Read.{Read}
+use Rattle.stream.specs.declared.Step.{Step}
 use Rattle.filter_functions.specs.Values.{parse_blur, parse_hue_rotate, parse_generic_color_func, parse_url}
 use Rattle.filter_functions.specs.Shadow.{parse_drop_shadow_func}
 use Rattle.filter_functions.specs.declared.FilterName.{FilterName}
 use Rattle.filter_functions.specs.declared.FilterName.TheVariants as N
-use Rattle.filter_functions.specs.declared.FilterRead.{FilterRead}
-use Rattle.filter_functions.specs.declared.FilterRead.TheVariants as F
-use Rattle.filter_functions.specs.declared.FilterStep.{FilterStep}
-use Rattle.filter_functions.specs.declared.FilterStep.TheVariants as O
 use Rattle.filter_functions.specs.declared.FilterValue.{FilterValue}
+use Rattle.filter_functions.specs.declared.Listed.{Listed}
+use Rattle.filter_functions.specs.declared.Listed.TheVariants as I
+use Rattle.filter_functions.specs.declared.Plain.{Plain}
 use Rattle.filter_functions.specs.declared.Plain.TheVariants as P
-use Rattle.filter_functions.specs.declared.StepRead.{StepRead}
-use Rattle.filter_functions.specs.declared.StepRead.TheVariants as S
 
 -- "Names are lower case only." The seven plain functions
-unfoldable pub plain_name : List ℕ → FilterName
+unfoldable pub plain_name : List ℕ → Option Plain
 plain_name w =
-    cond (same w (ascii "brightness")) (N.Plain P.Brightness)
-    (cond (same w (ascii "contrast")) (N.Plain P.Contrast)
-    (cond (same w (ascii "grayscale")) (N.Plain P.Grayscale)
-    (cond (same w (ascii "invert")) (N.Plain P.Invert)
-    (cond (same w (ascii "opacity")) (N.Plain P.Opacity)
-    (cond (same w (ascii "saturate")) (N.Plain P.Saturate)
-    (cond (same w (ascii "sepia")) (N.Plain P.Sepia) N.Unknown))))))
+    if same w (ascii "brightness") then Some P.Brightness
+    else (if same w (ascii "contrast") then Some P.Contrast
+    else (if same w (ascii "grayscale") then Some P.Grayscale
+    else (if same w (ascii "invert") then Some P.Invert
+    else (if same w (ascii "opacity") then Some P.Opacity
+    else (if same w (ascii "saturate") then Some P.Saturate
+    else (if same w (ascii "sepia") then Some P.Sepia else None))))))
+
+abbrev pub plain_or : Option Plain → Option FilterName
+plain_or (Some f) = Some (N.Plain f)
+plain_or None = None
 
 -- and all of them
-unfoldable pub filter_name : List ℕ → FilterName
+unfoldable pub filter_name : List ℕ → Option FilterName
 filter_name w =
-    cond (same w (ascii "blur")) N.Blur
-    (cond (same w (ascii "drop-shadow")) N.DropShadow
-    (cond (same w (ascii "hue-rotate")) N.HueRotate
-    (cond (same w (ascii "url")) N.Url (plain_name w))))
+    if same w (ascii "blur") then Some N.Blur
+    else (if same w (ascii "drop-shadow") then Some N.DropShadow
+    else (if same w (ascii "hue-rotate") then Some N.HueRotate
+    else (if same w (ascii "url") then Some N.Url else plain_or (plain_name w))))
 
 -- what the brackets of a function hold; 6 for an unknown name
-abbrev pub argument_of : FilterName → List ℕ → ℕ → ℕ → FilterRead
-argument_of N.Blur s name at = parse_blur s name at
-argument_of N.DropShadow s name at = parse_drop_shadow_func s name at
-argument_of N.HueRotate s name at = parse_hue_rotate s name at
-argument_of (N.Plain f) s name at = parse_generic_color_func s name at f
-argument_of N.Url s name at = parse_url s name at
-argument_of N.Unknown s name at = F.Refused (unexpected_data s name)
+abbrev pub argument_of : Option FilterName → List ℕ → ℕ → ℕ → Result (Read FilterValue) Fault
+argument_of (Some N.Blur) s name at = parse_blur s name at
+argument_of (Some N.DropShadow) s name at = parse_drop_shadow_func s name at
+argument_of (Some N.HueRotate) s name at = parse_hue_rotate s name at
+argument_of (Some (N.Plain f)) s name at = parse_generic_color_func s name at f
+argument_of (Some N.Url) s name at = parse_url s name at
+argument_of None s name at = Err (unexpected_data s name)
 
-unfoldable pub parse_argument : List ℕ → ℕ → ℕ → ℕ → FilterRead
-parse_argument s name end at = bind (filter_name (part s name end)) (λ f. argument_of f s name at)
+unfoldable pub parse_argument : List ℕ → ℕ → ℕ → ℕ → Result (Read FilterValue) Fault
+parse_argument s name end at = argument_of (filter_name (part s name end)) s name at
 
 -- spaces, `)` (41)
-unfoldable pub close_bracket : List ℕ → ℕ → FilterValue → FilterRead
-close_bracket s at v = bind (scan is_space s at) (λ i. then_consumed F.Refused (consume_byte s i 41) (λ p. F.Value v p))
+unfoldable pub close_bracket : List ℕ → ℕ → FilterValue → Result (Read FilterValue) Fault
+close_bracket s at v = do
+  next ← consume_byte s (scan is_space s at) 41
+  Ok (record { value = v; next = next })
 
 -- `parse_next`, up to the closing bracket: a word, spaces, `(` (40), spaces, what the brackets hold
-unfoldable pub parse_next : List ℕ → ℕ → FilterRead
+unfoldable pub parse_next : List ℕ → ℕ → Result (Read FilterValue) Fault
 parse_next s start =
-    bind (scan is_ascii_ident s start) (λ end.
-    bind (scan is_space s end) (λ left.
-    then_consumed F.Refused (consume_byte s left 40) (λ p.
-    bind (scan is_space s p.0) (λ at.
-    then_filter F.Refused (parse_argument s start end at) (λ v q. close_bracket s q.0 v)))))
+    let end = scan is_ascii_ident s start in
+    do
+      inner ← consume_byte s (scan is_space s end) 40
+      read ← parse_argument s start end (scan is_space s inner.0)
+      close_bracket s read.next.0 read.value
+
+abbrev pub listed : Listed → ℕ → Result (Read Listed) Fault
+listed x i = Ok (record { value = x; next = place i })
 
 -- after `none`: spaces, and the end of the text, else 5
-unfoldable pub after_none : List ℕ → ℕ → StepRead
-after_none s at = bind (scan is_space s at) (λ i. cond (leb (length s) i) S.NoneWord (S.Refused (invalid_value i)))
+unfoldable pub after_none : List ℕ → ℕ → Result (Read Listed) Fault
+after_none s at = if ltb (scan is_space s at) (length s) then Err (invalid_value (scan is_space s at)) else listed I.NoneWord (length s)
 
--- `next`: spaces before a value, `none`, and the spaces after a value, which are passed here
-unfoldable pub parse_step : List ℕ → ℕ → StepRead
+-- `next`: spaces before a value, `none`, and the spaces after a value, which are passed here. "with nothing left, it gives the end of the text"
+unfoldable pub parse_step : List ℕ → ℕ → Result (Read Listed) Fault
 parse_step s at =
-    bind (scan is_space s at) (λ start.
-    cond (leb (length s) start) S.End
-    (cond (starts_with (ascii "none") (drop start s)) (after_none s (start + 4))
-    (then_filter S.Refused (parse_next s start) (λ v p. bind (scan is_space s p.0) (λ i. S.Value v (place i))))))
+    let start = scan is_space s at in
+    if leb (length s) start then listed I.End (length s)
+    else (if starts_with (ascii "none") (drop start s) then after_none s (start + 4)
+    else (do
+      read ← parse_next s start
+      listed (I.Value read.value) (scan is_space s read.next.0)))
 
--- "refused by 4 to 15, or with nothing left, it gives the end of the text"; 22 to 24 are as 9 and 10 (document 02)
-abbrev pub edged : List ℕ → StepRead → FilterStep
-edged s x = then_step (λ e. O.Refused (refusal_of s e) (place (length s))) (O.End (place (length s))) (O.NoneWord (place (length s))) x (λ v p. O.Value v p)
+-- a step: what the list has there, or why it is refused; and the list place to go on from
+abbrev pub FilterStep : Type 0
+FilterStep = Step Listed
 
--- a step from a place that is admitted
-unfoldable pub step_of : List ℕ → ℕ → FilterStep
-step_of s i = edged s (parse_step s i)
+abbrev pub value_step : FilterValue → Place → FilterStep
+value_step v p = record { item = Ok (I.Value v); place = p }
 
--- "A list step refused by 1 to 3 gives its list place back as it came"
+abbrev pub end_step : Place → FilterStep
+end_step p = record { item = Ok I.End; place = p }
+
+abbrev pub none_step : Place → FilterStep
+none_step p = record { item = Ok I.NoneWord; place = p }
+
+-- "A list step refused by 1 to 3 gives its list place back as it came"; "refused by 4 to 15 .. it gives the end of the text". 22 to 24 are as 9 and 10
 unfoldable pub next_filter : List ℕ → ℕ → FilterStep
-next_filter s i = then_admitted (λ e. O.Refused e (place i)) (admit_place s i) (step_of s i)
+next_filter s i = placed i (admit_place s i) (edged s (parse_step s i))

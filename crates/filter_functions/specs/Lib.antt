@@ -3,3 +3,4 @@ pub mod Values
 pub mod Shadow
 pub mod Filters
 pub mod Paper
+pub mod Lists

@@ -1,87 +1,89 @@
 // What the brackets of a filter function hold, a shadow's apart.
 ghost use Rattle.std.specs.Prelude.{◌≡◌, ◌≤◌, length};
 ghost use Rattle.length.specs.Paper.{zero_length};
-ghost use Rattle.filter_functions.specs.Values.{is_percent, plain_value, parse_generic_color_func, parse_filter_length, parse_filter_positive_length, parse_filter_angle, parse_blur, parse_hue_rotate, parse_url};
+ghost use Rattle.filter_functions.specs.Values.{is_percent, no_percentage, plain_value, parse_generic_color_func, parse_filter_length, parse_filter_positive_length, parse_filter_angle, parse_blur, parse_hue_rotate, parse_url};
 
-use crate::{FilterRead, FilterValue, Plain};
-use angle::{Angle, AngleRead, AngleUnit, AngleUnitRead};
-use length::{Length, LengthRead, LengthUnit};
-use numbers::NumberRead;
-use stream::{Consumed, Trouble};
+use crate::{FilterValue, Plain};
+use angle::{Angle, AngleUnit};
+use length::{Length, LengthUnit};
+use stream::{Fault, Read, Trouble};
 use text_bytes::{Part, Place};
 
-pub fn parse_blur(text: &[u8], name: Place, at: Place) -> FilterRead
-    requires { length text.now ≤ 4096 }
+#[tactic(auto, unfolding(crate::specs::Values::parse_blur))]
+pub fn parse_blur(text: &[u8], name: Place, at: Place) -> Result<Read<FilterValue>, Fault>
     ensures { result ≡ parse_blur text.now name.0 at.0 }
 {
     if text_bytes::is_curr_byte_eq(text, at, b')') {
-        return FilterRead::Value(FilterValue::Blur(zero_length()), at);
+        return Ok(Read {
+            value: FilterValue::Blur(zero_length()),
+            next: at,
+        });
     }
-    match parse_filter_positive_length(text, name, at) {
-        LengthRead::Refused(e) => FilterRead::Refused(e),
-        LengthRead::Value(l, _, p) => FilterRead::Value(FilterValue::Blur(l), p),
-    }
+    Ok(parse_filter_positive_length(text, name, at)?.map(FilterValue::Blur))
 }
 
-pub fn parse_hue_rotate(text: &[u8], name: Place, at: Place) -> FilterRead
-    requires { length text.now ≤ 4096 }
+#[tactic(auto, unfolding(crate::specs::Values::parse_hue_rotate))]
+pub fn parse_hue_rotate(text: &[u8], name: Place, at: Place) -> Result<Read<FilterValue>, Fault>
     ensures { result ≡ parse_hue_rotate text.now name.0 at.0 }
 {
     if text_bytes::is_curr_byte_eq(text, at, b')') {
         let number = 0.0;
         let unit = AngleUnit::Degrees;
-        return FilterRead::Value(FilterValue::HueRotate(Angle { number, unit }), at);
+        return Ok(Read {
+            value: FilterValue::HueRotate(Angle { number, unit }),
+            next: at,
+        });
     }
-    match parse_filter_angle(text, name, at) {
-        AngleRead::Refused(e) => FilterRead::Refused(e),
-        AngleRead::Value(a, _, p) => FilterRead::Value(FilterValue::HueRotate(a), p),
-    }
+    Ok(parse_filter_angle(text, name, at)?.map(FilterValue::HueRotate))
 }
 
 // `#` and a link, which ends before a space or the bracket.
-pub fn parse_url(text: &[u8], name: Place, at: Place) -> FilterRead
+#[tactic(auto, unfolding(crate::specs::Values::parse_url))]
+pub fn parse_url(text: &[u8], name: Place, at: Place) -> Result<Read<FilterValue>, Fault>
     ensures { result ≡ parse_url text.now name.0 at.0 }
 {
-    match stream::consume_byte(text, at, b'#') {
-        Consumed::Refused(e) => FilterRead::Refused(e),
-        Consumed::Next(start) => {
-            let end = text_bytes::skip_to_space_or_bracket(text, start);
-            let from = start.0;
-            let to = end.0;
-            if to <= from {
-                return FilterRead::Refused(stream::trouble_at(
-                    Trouble::InvalidUrl,
-                    name,
-                    name,
-                    start,
-                ));
-            }
-            let len = to - from;
-            FilterRead::Value(FilterValue::Url(Part { start, len }), end)
-        }
+    let start = stream::consume_byte(text, at, b'#')?;
+    let next = text_bytes::skip_to_space_or_bracket(text, start);
+    if next.0 <= start.0 {
+        return Err(stream::trouble_at(Trouble::InvalidUrl, name, name, start));
     }
+    let len = next.0 - start.0;
+    Ok(Read {
+        value: FilterValue::Url(Part { start, len }),
+        next,
+    })
 }
 
 // The argument of one of the seven plain functions.
-pub fn parse_generic_color_func(text: &[u8], name: Place, at: Place, plain: Plain) -> FilterRead
-    requires { length text.now ≤ 4096 }
+#[tactic(auto, unfolding(crate::specs::Values::parse_generic_color_func))]
+pub fn parse_generic_color_func(
+    text: &[u8],
+    name: Place,
+    at: Place,
+    plain: Plain,
+) -> Result<Read<FilterValue>, Fault>
     ensures { result ≡ parse_generic_color_func text.now name.0 at.0 plain }
 {
     if text_bytes::is_curr_byte_eq(text, at, b')') {
-        return FilterRead::Value(plain_value(plain, 1.0), at);
+        return Ok(Read {
+            value: plain_value(plain, 1.0),
+            next: at,
+        });
     }
-    match numbers::parse_number_or_percent(text, at) {
-        NumberRead::Refused(e) => FilterRead::Refused(e),
-        NumberRead::Value(n, p) => {
-            if floats::is_sign_negative(n.value) {
-                return FilterRead::Refused(stream::trouble_at(Trouble::NegativeValue, at, name, p));
-            }
-            FilterRead::Value(plain_value(plain, n.value), p)
-        }
+    let read = numbers::parse_number_or_percent(text, at)?;
+    let number = read.value.value;
+    if floats::is_sign_negative(number) {
+        return Err(stream::trouble_at(Trouble::NegativeValue, at, name, read.next));
     }
+    Ok(Read {
+        value: plain_value(plain, number),
+        next: read.next,
+    })
 }
 
-fn plain_value(plain: Plain, number: f64) -> FilterValue
+// No From: it takes which of the seven it is, too.
+#[tactic(auto, unfolding(crate::specs::Values::plain_value))]
+pub fn plain_value(plain: Plain, number: f64) -> FilterValue
     ensures { result ≡ plain_value plain number }
 {
     match plain {
@@ -105,82 +107,67 @@ pub fn zero_length() -> Length
     }
 }
 
+#[tactic(auto, unfolding(crate::specs::Values::is_percent))]
 pub fn is_percent(unit: LengthUnit) -> bool
     ensures { result ≡ is_percent unit }
 {
-    match unit {
-        LengthUnit::Percent => true,
-        _ => false,
-    }
+    unit == LengthUnit::Percent
 }
 
 // A length that is no percentage.
-pub fn parse_filter_length(text: &[u8], name: Place, at: Place) -> LengthRead
-    requires { length text.now ≤ 4096 }
+#[tactic(auto, unfolding(crate::specs::Values::parse_filter_length))]
+pub fn parse_filter_length(text: &[u8], name: Place, at: Place) -> Result<Read<Length>, Fault>
     ensures { result ≡ parse_filter_length text.now name.0 at.0 }
 {
-    match length::parse_length(text, at) {
-        LengthRead::Refused(e) => LengthRead::Refused(e),
-        LengthRead::Value(l, n, p) => {
-            let unit = l.unit;
-            if is_percent(unit) {
-                return LengthRead::Refused(stream::trouble_at(
-                    Trouble::PercentageValue,
-                    at,
-                    name,
-                    p,
-                ));
-            }
-            LengthRead::Value(l, n, p)
-        }
-    }
+    let read = length::parse_length(text, at)?.map(|written| written.value);
+    no_percentage(read, name, at)
 }
 
 // A length that is neither negative nor a percentage; the sign is judged first.
-fn parse_filter_positive_length(text: &[u8], name: Place, at: Place) -> LengthRead
-    requires { length text.now ≤ 4096 }
+#[tactic(auto, unfolding(crate::specs::Values::parse_filter_positive_length))]
+fn parse_filter_positive_length(text: &[u8], name: Place, at: Place) -> Result<Read<Length>, Fault>
     ensures { result ≡ parse_filter_positive_length text.now name.0 at.0 }
 {
-    match length::parse_length(text, at) {
-        LengthRead::Refused(e) => LengthRead::Refused(e),
-        LengthRead::Value(l, n, p) => {
-            let unit = l.unit;
-            if floats::is_sign_negative(l.number) {
-                return LengthRead::Refused(stream::trouble_at(Trouble::NegativeValue, at, name, p));
-            }
-            if is_percent(unit) {
-                return LengthRead::Refused(stream::trouble_at(
-                    Trouble::PercentageValue,
-                    at,
-                    name,
-                    p,
-                ));
-            }
-            LengthRead::Value(l, n, p)
-        }
+    let read = length::parse_length(text, at)?.map(|written| written.value);
+    if floats::is_sign_negative(read.value.number) {
+        return Err(stream::trouble_at(Trouble::NegativeValue, at, name, read.next));
     }
+    no_percentage(read, name, at)
+}
+
+// What was read from `at` on, unless it is a percentage.
+fn no_percentage(read: Read<Length>, name: Place, at: Place) -> Result<Read<Length>, Fault>
+    ensures { result ≡ no_percentage read name.0 at.0 }
+{
+    if is_percent(read.value.unit) {
+        return Err(stream::trouble_at(Trouble::PercentageValue, at, name, read.next));
+    }
+    Ok(read)
 }
 
 // As an angle, but that only zero may lack its unit.
-fn parse_filter_angle(text: &[u8], name: Place, at: Place) -> AngleRead
-    requires { length text.now ≤ 4096 }
+#[tactic(auto, unfolding(crate::specs::Values::parse_filter_angle))]
+fn parse_filter_angle(text: &[u8], name: Place, at: Place) -> Result<Read<Angle>, Fault>
     ensures { result ≡ parse_filter_angle text.now name.0 at.0 }
 {
     let start = text_bytes::skip_spaces(text, at);
-    match numbers::parse_number(text, start) {
-        NumberRead::Refused(e) => AngleRead::Refused(e),
-        NumberRead::Value(n, p) => {
-            let number = n.value;
-            match angle::parse_unit(text, p) {
-                AngleUnitRead::Found(unit, q) => AngleRead::Value(Angle { number, unit }, n, q),
-                AngleUnitRead::Missing => {
-                    if number == 0.0 {
-                        let unit = AngleUnit::Degrees;
-                        return AngleRead::Value(Angle { number, unit }, n, p);
-                    }
-                    AngleRead::Refused(stream::trouble_at(Trouble::InvalidAngle, start, name, p))
-                }
-            }
-        }
+    let read = numbers::parse_number(text, start)?;
+    let number = read.value.value;
+    match angle::parse_unit(text, read.next) {
+        Some(unit) => Ok(Read {
+            value: Angle {
+                number,
+                unit: unit.value,
+            },
+            next: unit.next,
+        }),
+        None if number == 0.0 => Ok(Read {
+            value: Angle {
+                number,
+                unit: AngleUnit::Degrees,
+            },
+            next: read.next,
+        }),
+        None => Err(stream::trouble_at(Trouble::InvalidAngle, start, name, read.next)),
     }
 }

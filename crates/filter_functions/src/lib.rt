@@ -1,34 +1,30 @@
 // Filter values: a step of a list of filter functions and links.
 #![tactic(auto)]
 
-ghost use Rattle.std.specs.Prelude.{◌≡◌, ◌≤◌, length};
-ghost use Rattle.filter_functions.specs.Filters.{filter_name, plain_name, parse_argument, close_bracket, parse_next, after_none, parse_step, next_filter};
+ghost use Rattle.std.specs.Prelude.{◌≡◌, ◌≤◌, length, false};
+ghost use Rattle.std.specs.Iterator.{at_most};
+ghost use Rattle.filter_functions.specs.Filters.{filter_name, plain_name, argument_of, parse_next, after_none, parse_step, next_filter};
+ghost use Rattle.filter_functions.specs.Lists.{StepsOn, left};
 ghost use Rattle.filter_functions.specs.Paper.{paper_step};
 
 use angle::Angle;
 use color::Color;
 use length::Length;
-use stream::{Admission, Consumed, Fault, Refusal};
+use stream::{Fault, Read, Refusal, Step};
 use text_bytes::{Part, Place};
 
 mod arguments;
 mod drop_shadow;
 
-pub use arguments::is_percent;
+pub use arguments::{is_percent, plain_value};
 use arguments::{parse_blur, parse_generic_color_func, parse_hue_rotate, parse_url};
 use drop_shadow::parse_drop_shadow_func;
 
-// A shadow's colour; none where it is left out or `currentColor`, which are to be drawn alike.
-#[derive(Clone, Copy)]
-pub enum ShadowColor {
-    None,
-    Some(Color),
-}
-
-// The offsets are no percentages; the deviation is not negative either.
-#[derive(Clone, Copy)]
+// The offsets are no percentages; the deviation is not negative either. No colour is one that is left out or `currentColor`, which are to be
+// drawn alike.
+#[derive(Clone, Copy, Debug, PartialEq)]
 pub struct Shadow {
-    pub color: ShadowColor,
+    pub color: Option<Color>,
     pub dx: Length,
     pub dy: Length,
     pub deviation: Length,
@@ -50,29 +46,12 @@ pub enum FilterValue {
     Url(Part),
 }
 
-// A step: a value with the next list place; an end with its place, the word `none` told apart; or a refusal with the list place given back.
+// What a list has at a place: a value, or its end. The word `none`, which ends it too, is told apart.
 #[derive(Clone, Copy)]
-pub enum FilterStep {
-    Value(FilterValue, Place),
-    End(Place),
-    NoneWord(Place),
-    Refused(Refusal, Place),
-}
-
-// The same in places alone.
-#[derive(Clone, Copy)]
-pub enum StepRead {
-    Value(FilterValue, Place),
+pub enum Listed {
+    Value(FilterValue),
     End,
     NoneWord,
-    Refused(Fault),
-}
-
-// A value and the place where reading goes on, or why there is none.
-#[derive(Clone, Copy)]
-pub enum FilterRead {
-    Value(FilterValue, Place),
-    Refused(Fault),
 }
 
 #[derive(Clone, Copy)]
@@ -93,172 +72,191 @@ enum FilterName {
     HueRotate,
     Plain(Plain),
     Url,
-    Unknown,
 }
 
-// What an attempt to read a shadow's colour came to: only a number outside the domain refuses.
+// Both offsets and the deviation.
 #[derive(Clone, Copy)]
-enum ColorTry {
-    Found(ShadowColor, Place),
-    Missing,
-    Refused(Fault),
-}
-
-#[derive(Clone, Copy)]
-enum DeviationRead {
-    Value(Length, Place),
-    Refused(Fault),
-}
-
-// Both offsets, the deviation, and the place where reading goes on.
-#[derive(Clone, Copy)]
-enum ShadowLengths {
-    Value(Length, Length, Length, Place),
-    Refused(Fault),
+struct ShadowLengths {
+    dx: Length,
+    dy: Length,
+    deviation: Length,
 }
 
 // One step of a filter list, from a list place.
-pub fn next(text: &[u8], place: Place) -> FilterStep
+// As `length::next` but for the reader, whose contract a function over a reader would want as a closure's.
+#[tactic(auto, unfolding(crate::specs::Filters::next_filter), using(stream::proofs::Edges::placed_utf8))]
+pub fn next(text: &[u8], place: Place) -> Step<Listed>
     ensures value { result ≡ next_filter text.now place.0 }
     ensures result_value { paper_step result ≡ paper_step (next_filter text.now place.0) }
 {
-    match stream::admit_place(text, place) {
-        Admission::Refused(refusal) => FilterStep::Refused(refusal, place),
-        Admission::Admitted => {
-            let end = text.len();
-            match parse_step(text, place) {
-                StepRead::Value(v, p) => FilterStep::Value(v, p),
-                StepRead::End => FilterStep::End(Place(end)),
-                StepRead::NoneWord => FilterStep::NoneWord(Place(end)),
-                StepRead::Refused(e) => {
-                    FilterStep::Refused(stream::refusal_of(text, e), Place(end))
-                }
-            }
-        }
+    if let Err(refusal) = stream::admit_place(text, place) {
+        return Step::refused(refusal, place);
     }
+    Step::edged(text, parse_step(text, place))
 }
 
 // An empty list is a list, too.
-pub fn parse_step(text: &[u8], at: Place) -> StepRead
-    requires { length text.now ≤ 4096 }
+#[tactic(auto, unfolding(crate::specs::Filters::parse_step), using(text_bytes::proofs::Wording::word_ends))]
+pub fn parse_step(text: &[u8], at: Place) -> Result<Read<Listed>, Fault>
     ensures { result ≡ parse_step text.now at.0 }
 {
     let start = text_bytes::skip_spaces(text, at);
     let i = start.0;
-    if text.len() <= i {
-        return StepRead::End;
+    if i >= text.len() {
+        return Ok(Read {
+            value: Listed::End,
+            next: Place(text.len()),
+        });
     }
     if text_bytes::starts_with(text, start, b"none") {
         return after_none(text, Place(i + 4));
     }
-    match parse_next(text, start) {
-        FilterRead::Refused(e) => StepRead::Refused(e),
-        FilterRead::Value(v, p) => StepRead::Value(v, text_bytes::skip_spaces(text, p)),
-    }
+    Ok(parse_next(text, start)?.spaced(text).map(Listed::Value))
 }
 
 // What follows `none`: nothing may.
-fn after_none(text: &[u8], at: Place) -> StepRead
+#[tactic(auto, unfolding(crate::specs::Filters::after_none))]
+fn after_none(text: &[u8], at: Place) -> Result<Read<Listed>, Fault>
     ensures { result ≡ after_none text.now at.0 }
 {
     let rest = text_bytes::skip_spaces(text, at);
-    let i = rest.0;
-    if text.len() <= i {
-        return StepRead::NoneWord;
+    if rest.0 < text.len() {
+        return Err(stream::invalid_value(rest));
     }
-    StepRead::Refused(stream::invalid_value(rest))
+    Ok(Read {
+        value: Listed::NoneWord,
+        next: Place(text.len()),
+    })
 }
 
 // One value, from its name to its closing bracket.
-fn parse_next(text: &[u8], start: Place) -> FilterRead
-    requires text_len_bound { length text.now ≤ 4096 }
+// `start` lies inside, where a byte was seen. A total form would have an answer for a case that none meets.
+#[tactic(auto, unfolding(crate::specs::Filters::parse_next, crate::specs::Filters::parse_argument, crate::specs::Filters::close_bracket, text_bytes::specs::Words::part), using(text_bytes::proofs::Scans::scan_ge, text_bytes::proofs::Scans::scan_le))]
+fn parse_next(text: &[u8], start: Place) -> Result<Read<FilterValue>, Fault>
     requires start_in_bounds { start.0 ≤ length text.now }
     ensures { result ≡ parse_next text.now start.0 }
 {
     let end = text_bytes::consume_ascii_ident(text, start);
-    let left = text_bytes::skip_spaces(text, end);
-    match stream::consume_byte(text, left, b'(') {
-        Consumed::Refused(e) => FilterRead::Refused(e),
-        Consumed::Next(p) => {
-            let at = text_bytes::skip_spaces(text, p);
-            match parse_argument(text, start, end, at) {
-                FilterRead::Refused(e) => FilterRead::Refused(e),
-                FilterRead::Value(v, q) => close_bracket(text, q, v),
-            }
+    let inner = stream::consume_byte(text, text_bytes::skip_spaces(text, end), b'(')?;
+    let word = &text[start.0..end.0];
+    let read = parse_argument(text, start, word, text_bytes::skip_spaces(text, inner))?;
+    stream::close(text, read.next, b')', read.value)
+}
+
+// What stands in the brackets after `word`, the name that starts at `name`.
+// No struct of `text, name, at`: `at` moves with each call, and one of the other two would save a parameter for a `self.` at each use.
+fn parse_argument(
+    text: &[u8],
+    name: Place,
+    word: &[u8],
+    at: Place,
+) -> Result<Read<FilterValue>, Fault>
+    ensures { result ≡ argument_of (filter_name word.now) text.now name.0 at.0 }
+{
+    match filter_name(word) {
+        Some(FilterName::Blur) => parse_blur(text, name, at),
+        Some(FilterName::DropShadow) => parse_drop_shadow_func(text, name, at),
+        Some(FilterName::HueRotate) => parse_hue_rotate(text, name, at),
+        Some(FilterName::Plain(plain)) => parse_generic_color_func(text, name, at, plain),
+        Some(FilterName::Url) => parse_url(text, name, at),
+        None => Err(stream::unexpected_data(text, name)),
+    }
+}
+
+#[tactic(auto, unfolding(crate::specs::Filters::filter_name))]
+fn filter_name(word: &[u8]) -> Option<FilterName>
+    ensures { result ≡ filter_name word.now }
+{
+    if text_bytes::equals(word, b"blur") {
+        return Some(FilterName::Blur);
+    }
+    if text_bytes::equals(word, b"drop-shadow") {
+        return Some(FilterName::DropShadow);
+    }
+    if text_bytes::equals(word, b"hue-rotate") {
+        return Some(FilterName::HueRotate);
+    }
+    if text_bytes::equals(word, b"url") {
+        return Some(FilterName::Url);
+    }
+    plain_name(word).map(FilterName::Plain)
+}
+
+#[tactic(auto, unfolding(crate::specs::Filters::plain_name))]
+fn plain_name(word: &[u8]) -> Option<Plain>
+    ensures { result ≡ plain_name word.now }
+{
+    if text_bytes::equals(word, b"brightness") {
+        return Some(Plain::Brightness);
+    }
+    if text_bytes::equals(word, b"contrast") {
+        return Some(Plain::Contrast);
+    }
+    if text_bytes::equals(word, b"grayscale") {
+        return Some(Plain::Grayscale);
+    }
+    if text_bytes::equals(word, b"invert") {
+        return Some(Plain::Invert);
+    }
+    if text_bytes::equals(word, b"opacity") {
+        return Some(Plain::Opacity);
+    }
+    if text_bytes::equals(word, b"saturate") {
+        return Some(Plain::Saturate);
+    }
+    if text_bytes::equals(word, b"sepia") {
+        return Some(Plain::Sepia);
+    }
+    None
+}
+
+// A list of filter values, one by one: each call of `next` is one step, and a refusal is the last. `none` is a list without values.
+// As `LengthListParser`: a generic one would want the reader, its contract and its measure as ghost members of a trait, which is no shorter.
+#[derive(Drop)]
+pub struct FilterValueListParser<'a> {
+    text: &'a [u8],
+    place: Place,
+    ended: bool,
+}
+
+impl<'a> FilterValueListParser<'a> {
+    pub fn new(text: &'a [u8]) -> FilterValueListParser<'a>
+        ensures text { result.text.now ≡ text.now }
+        ensures place { result.place.0 ≡ 0 }
+        ensures ended { result.ended ≡ false }
+    {
+        FilterValueListParser {
+            text,
+            place: Place(0),
+            ended: false,
         }
     }
 }
 
-// What stands in the brackets after the name that goes from `name` to `end`.
-fn parse_argument(text: &[u8], name: Place, end: Place, at: Place) -> FilterRead
-    requires text_len_bound { length text.now ≤ 4096 }
-    requires name_le_end { name.0 ≤ end.0 }
-    requires end_in_bounds { end.0 ≤ length text.now }
-    ensures { result ≡ parse_argument text.now name.0 end.0 at.0 }
-{
-    let from = name.0;
-    let to = end.0;
-    match filter_name(&text[from..to]) {
-        FilterName::Blur => parse_blur(text, name, at),
-        FilterName::DropShadow => parse_drop_shadow_func(text, name, at),
-        FilterName::HueRotate => parse_hue_rotate(text, name, at),
-        FilterName::Plain(plain) => parse_generic_color_func(text, name, at, plain),
-        FilterName::Url => parse_url(text, name, at),
-        FilterName::Unknown => FilterRead::Refused(stream::unexpected_data(text, name)),
-    }
-}
+impl<'a> Iterator for FilterValueListParser<'a> {
+    type Item = Result<FilterValue, Refusal>;
 
-fn filter_name(word: &[u8]) -> FilterName
-    ensures { result ≡ filter_name word.now }
-{
-    if text_bytes::equals(word, b"blur") {
-        return FilterName::Blur;
-    }
-    if text_bytes::equals(word, b"drop-shadow") {
-        return FilterName::DropShadow;
-    }
-    if text_bytes::equals(word, b"hue-rotate") {
-        return FilterName::HueRotate;
-    }
-    if text_bytes::equals(word, b"url") {
-        return FilterName::Url;
-    }
-    plain_name(word)
-}
+    ghost next_gives = { StepsOn };
 
-fn plain_name(word: &[u8]) -> FilterName
-    ensures { result ≡ plain_name word.now }
-{
-    if text_bytes::equals(word, b"brightness") {
-        return FilterName::Plain(Plain::Brightness);
-    }
-    if text_bytes::equals(word, b"contrast") {
-        return FilterName::Plain(Plain::Contrast);
-    }
-    if text_bytes::equals(word, b"grayscale") {
-        return FilterName::Plain(Plain::Grayscale);
-    }
-    if text_bytes::equals(word, b"invert") {
-        return FilterName::Plain(Plain::Invert);
-    }
-    if text_bytes::equals(word, b"opacity") {
-        return FilterName::Plain(Plain::Opacity);
-    }
-    if text_bytes::equals(word, b"saturate") {
-        return FilterName::Plain(Plain::Saturate);
-    }
-    if text_bytes::equals(word, b"sepia") {
-        return FilterName::Plain(Plain::Sepia);
-    }
-    FilterName::Unknown
-}
+    ghost remaining = { λ s. at_most (left s) };
 
-fn close_bracket(text: &[u8], at: Place, value: FilterValue) -> FilterRead
-    ensures { result ≡ close_bracket text.now at.0 value }
-{
-    let right = text_bytes::skip_spaces(text, at);
-    match stream::consume_byte(text, right, b')') {
-        Consumed::Refused(e) => FilterRead::Refused(e),
-        Consumed::Next(p) => FilterRead::Value(value, p),
+    #[tactic(auto, using(crate::proofs::Growing::step_grows))]
+    fn next(&mut self) -> Option<Result<FilterValue, Refusal>> {
+        if self.ended {
+            return None;
+        }
+        let step = next(self.text, self.place);
+        self.place = step.place;
+        match step.item {
+            Ok(Listed::Value(value)) => Some(Ok(value)),
+            Ok(_) => {
+                self.ended = true;
+                None
+            }
+            Err(refusal) => {
+                self.ended = true;
+                Some(Err(refusal))
+            }
+        }
     }
 }

@@ -86,16 +86,22 @@ below_255 : (m : ℕ) (e : ℤ) → lt (fin false m e) top' ≡ true → m * up 
 unfolding lt of_bits
 below_255 m e h = (div-lt_iff_lt-mul (down_pos e)).1 (subst (λ (x : ℕ). x < 255 * down e) (mul-one (m * up e)) (ltb-true (m * up e * 1) (255 * down e) h))
 
-pub in_range : (p : Float) → lt zero' p ≡ true → lt p top' ≡ true → T (lt (fin true 1 (pos 0)) p) × T (lt p (fin false 1 (pos 64)))
+pub above_minus_one : (p : Float) → lt zero' p ≡ true → T (lt (fin true 1 (pos 0)) p)
 unfolding lt of_bits
-in_range nan a b = absurd (true≢false (sym a))
-in_range (inf true) a b = absurd (true≢false (sym a))
-in_range (inf false) a b = absurd (true≢false (sym b))
-in_range (fin true m e) a b = absurd (true≢false (sym a))
-in_range (fin false m e) a b = (
-  lt→ltb 0 (1 * down e + m * up e * 1) (let d = down_pos e in let o = one-mul (down e) in omega arith),
-  lt→ltb (m * up e * 1) (2 ^ 64 * down e) (lt_of_lt_of_le (ltb-true (m * up e * 1) (255 * down e) b) (mul-le-mul_right (down e) (lit≤ tt))),
-)
+above_minus_one nan a = absurd (true≢false (sym a))
+above_minus_one (inf true) a = absurd (true≢false (sym a))
+above_minus_one (inf false) a = tt
+above_minus_one (fin true m e) a = absurd (true≢false (sym a))
+above_minus_one (fin false m e) a = lt→ltb 0 (1 * down e + m * up e * 1) (let d = down_pos e in let o = one-mul (down e) in omega arith)
+
+pub below_2_64 : (p : Float) → lt p top' ≡ true → T (lt p (fin false 1 (pos 64)))
+unfolding lt of_bits
+below_2_64 nan b = absurd (true≢false (sym b))
+below_2_64 (inf true) b = tt
+below_2_64 (inf false) b = absurd (true≢false (sym b))
+below_2_64 (fin true m e) b = lt→ltb 0 (m * up e * 1 + 2 ^ 64 * down e) (let d = down_pos e in omega arith)
+below_2_64 (fin false m e) b =
+    lt→ltb (m * up e * 1) (2 ^ 64 * down e) (lt_of_lt_of_le (ltb-true (m * up e * 1) (255 * down e) b) (mul-le-mul_right (down e) (lit≤ tt)))
 
 -- what is cut off p is its fraction, and the rest is below 255
 cut : (m : ℕ) (e : ℤ) → lt (fin false m e) top' ≡ true → to_unsigned 64 (fin false m e) ≡ m * up e / down e

@@ -1,10 +1,10 @@
 -- The remainder of a float by 360: what the code finds over the fields of the float is IEEE 754's remainder. Assumes nothing.
-use Rattle.std.proofs.Common.{◌≡◌, ℕ, zero, suc, ◌+◌, ◌-◌, ◌*◌, ◌/◌, ◌%◌, ◌^◌, ◌<◌, ◌≤◌, Bool, true, false, cond, not, T, eqb, ltb, leb, ◌&&◌, ◌||◌, ◌⊎◌, pos, sym, refl, ap, ◌∙◌, subst, inl, inr, true≢false, le_trans, le_of_eq, le_of_lt, lt_of_lt_of_le, lt_of_le_of_lt, eq-or-lt_of_le, mul-le-mul_right, mul-lt-mul_of_pos_right, mod-lt, mod-eq_of_lt, mul_assoc, mul_comm, mul_right_comm, mul_left_comm, add-mul, mul-pos, zero-mul, mul-one, le_of_mul-le-mul_right, lt_of_mul-lt-mul_right, div-add-mod', arith, lit≤, lit<, ltb→lt, eqb→eq, ltb-false, ltb-true, lt-ltb, le-ltb, leb-false, lt_of_not-le, not-le_of_lt, subst₂, pow_pos, pow_mono, pow-add, ne_eqb, eq-eqb}
+use Rattle.std.proofs.Common.{◌≡◌, ℕ, zero, suc, ◌+◌, ◌-◌, ◌*◌, ◌/◌, ◌%◌, ◌^◌, ◌<◌, ◌≤◌, Bool, true, false, cond, not, T, eqb, ltb, leb, ◌&&◌, ◌||◌, ◌⊎◌, pos, sym, refl, ap, ◌∙◌, subst, inl, inr, true≢false, le_trans, le_of_eq, le_of_lt, lt_of_lt_of_le, lt_of_le_of_lt, eq-or-lt_of_le, mul-le-mul_right, mul-lt-mul_of_pos_right, mod-lt, mod-eq_of_lt, mul_assoc, mul_comm, mul_right_comm, mul_left_comm, add-mul, mul-pos, zero-mul, mul-one, le_of_mul-le-mul_right, lt_of_mul-lt-mul_right, div-add-mod', arith, lit≤, lit<, ltb→lt, eqb→eq, ltb-false, ltb-true, lt-ltb, le→leb, le-ltb, leb-false, lt_of_not-le, not-le_of_lt, subst₂, pow_pos, pow_mono, pow-add, ne_eqb, eq-eqb}
 use Rattle.std.proofs.lemmas.Nat.{mod-mul-add, mul-mod_first}
 use native.Mathlib.Nat.{eq_of_mul-eq-mul_right, mod-eq-sub-mod}
 use borrow.Author.Tests.{eqb-false}
 use lib.Pow.{shl_lt}
-use lib.Ieee.{Float, nan, inf, fin, fits, binary64, up, down, size, odd, round, units, of_fields, to_bits, of_bits, of_int, lt, le, neg, sum, add, sub, div, rem}
+use lib.Ieee.{Float, nan, inf, fin, fits, binary64, up, down, size, odd, round, units, of_fields, to_bits, of_bits, of_int, in_float, lt, le, neg, sum, add, sub, div, rem}
 use lib.Ieee.Fits.{down_pos, and_l, and_r, round-fits, round_is}
 use lib.Ieee.Exact.{HasValue, round_exact}
 use lib.Ieee.Nearest.{closest}
@@ -31,6 +31,9 @@ same_rest M D a c n P Q N e =
     ∙ ap (λ (x : ℕ). M * c % x) (mul_right_comm n D c)
     ∙ ap (λ (x : ℕ). x % (n * c * D)) e
     ∙ scaled a (n * c) D (mul-pos N Q) P
+
+pub none_yet : (r : ℕ) → r < 360 → r ≡ r * 2 ^ 0 % 360
+none_yet r h = sym (ap (λ (x : ℕ). x % 360) (mul-one r) ∙ mod-eq_of_lt h)
 
 pub once_more : (r k n : ℕ) → n ≡ r * 2 ^ k % 360 → n * 2 % 360 ≡ r * 2 ^ (k + 1) % 360
 once_more r k n h =
@@ -374,23 +377,39 @@ module _ (x : Float) (fit : fits binary64 x ≡ true) (h : T (le d360 x)) where
   is_fields : of_fields binary64 false field (to_bits binary64 x % 2 ^ 52) ≡ x
   is_fields = subst₂ (λ (s : Bool) (f : ℕ). of_fields binary64 s f (to_bits binary64 x % 2 ^ 52) ≡ x) in_fields.0 no_sign (from_fields x fitting)
 
-  pub unit_le : 2 ^ (1075 - field) ≤ 2 ^ 44
-  unit_le = let f = from_1031 in pow_mono {i = 1075 - field} {j = 44} (omega arith)
+  -- the code's unit
+  abbrev one_is : ℕ
+  one_is = 1 * 2 ^ (1075 - field) % 2 ^ 64
 
-  pub unit_is : 1 * 2 ^ (1075 - field) % 2 ^ 64 ≡ 2 ^ (1075 - field)
+  unit_is : one_is ≡ 2 ^ (1075 - field)
   unit_is = let f = from_1031 in unit (1075 - field) (omega arith)
 
-  pub in_parts : (u q : ℕ) → field < 1075 → u ≡ 2 ^ (1075 - field) → q ≡ whole % (360 * u) → div binary64 (of_int binary64 (pos q)) (of_int binary64 (pos u)) ≡ rem binary64 x d360
-  in_parts u q k e g =
+  pub unit_le : one_is ≤ 2 ^ 44
+  unit_le = let f = from_1031 in le_trans (le_of_eq unit_is) (pow_mono {i = 1075 - field} {j = 44} (omega arith))
+
+  pub unit_pos : 0 < one_is
+  unit_pos = subst (λ (y : ℕ). 0 < y) (sym unit_is) (pow_pos (1075 - field))
+
+  pub exact : T (in_float binary64 (pos (whole % (360 * one_is)))) × T (in_float binary64 (pos one_is))
+  unfolding in_float
+  exact =
+      let U = unit_le in
+      let P = unit_pos in
+      let m = mod-lt whole {m = 360 * one_is} (omega arith) in
+      (le→leb (whole % (360 * one_is)) (2 ^ 53) (omega arith), le→leb one_is (2 ^ 53) (omega arith))
+
+  pub in_parts : field < 1075 → div binary64 (of_int binary64 (pos (whole % (360 * one_is)))) (of_int binary64 (pos one_is)) ≡ rem binary64 x d360
+  in_parts k =
       let f = from_1031 in
-      let U : u ≤ 2 ^ 44 = le_trans (le_of_eq e) unit_le in
-      let P : 0 < u = subst (λ (y : ℕ). 0 < y) (sym e) (pow_pos (1075 - field)) in
-      let Q : q ≤ 2 ^ 53 = le_trans (le_of_eq g) (le_of_lt (lt_of_lt_of_le (mod-lt whole {m = 360 * u} (omega arith)) (omega arith))) in
+      let u = one_is in
+      let q = whole % (360 * u) in
+      let U : u ≤ 2 ^ 44 = unit_le in
+      let P : 0 < u = unit_pos in
+      let Q : q ≤ 2 ^ 53 = le_of_lt (lt_of_lt_of_le (mod-lt whole {m = 360 * u} (omega arith)) (omega arith)) in
       let v : HasValue x false whole u =
-      subst₂ (λ (w : Float) (y : ℕ). HasValue w false whole y) is_fields (sym e) (value_part field (to_bits binary64 x % 2 ^ 52) f k)
+      subst₂ (λ (w : Float) (y : ℕ). HasValue w false whole y) is_fields (sym unit_is) (value_part field (to_bits binary64 x % 2 ^ 52) f k)
       in
       quotient (of_int binary64 (pos q)) (of_int binary64 (pos u)) q u P (int_value q Q) (int_value u (omega arith))
-      ∙ ap (λ (y : ℕ). round binary64 false y u) g
       ∙ sym (rem_at x false whole u P v)
 
   pub in_wholes : (r : ℕ) → 1075 ≤ field → field < 2047 → r ≡ whole % 360 * 2 ^ (field - 1075) % 360 → of_int binary64 (pos r) ≡ rem binary64 x d360
@@ -400,7 +419,8 @@ module _ (x : Float) (fit : fits binary64 x ≡ true) (h : T (le d360 x)) where
       let v : HasValue x false a 1 = subst (λ (w : Float). HasValue w false a 1) is_fields (value_whole field (to_bits binary64 x % 2 ^ 52) k l) in
       ap (λ (y : ℕ). round binary64 false y 1) (e ∙ mul-mod_first whole (2 ^ (field - 1075)) 360) ∙ sym (rem_at x false a 1 (lit< tt) v)
 
-  pub at_end : 2047 ≤ field → nan ≡ rem binary64 x d360
+  pub at_end : 2047 ≤ field → div binary64 (of_bits binary64 0) (of_bits binary64 0) ≡ rem binary64 x d360
+  unfolding div of_bits
   at_end k =
       let t = to_bits binary64 x % 2 ^ 52 in
       let m = to_2047 in

@@ -1,7 +1,5 @@
-pub mod Steps
 pub mod Quotes
 pub mod Spans
 pub mod Shifts
 pub mod Ends
-pub mod Stretches
 pub mod Worked

@@ -1,4 +1,3 @@
 pub mod Link
-pub mod Moves
 pub mod Answers
 pub mod Paper

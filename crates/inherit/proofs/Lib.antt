@@ -1,4 +1,4 @@
-pub mod Steps
+pub mod Said
+pub mod Holds
 pub mod Kept
-pub mod Stretches
 pub mod Worked

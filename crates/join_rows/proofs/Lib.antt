@@ -1,4 +1,4 @@
 pub mod Moves
 pub mod Handed
 pub mod Joined
-pub mod Proved
+pub mod Whole

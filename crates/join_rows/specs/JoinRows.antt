@@ -1,13 +1,12 @@
 -- Demand 3 of rows, which `homeludaf_filter_all` hands out: "A filter list A read to its end without a refusal and not ended by `none`, followed by B (both
 -- UTF-8, together within the limit), hands out A's values unchanged, then all that B answers alone, moved. A list of n bytes hands out at most n/6 values."
 -- A row's entries are those of records, specs/Records; what the call writes is `fitting (filter_at s) lent i` (records, specs/Many; the call's contract, exports).
-use Rattle.std.specs.Prelude.{ℕ, suc, ◌+◌, ◌*◌, ◌/◌, ◌≤◌, Bool, true, cond, ◌&&◌, List, [], ◌∷◌, ◌++◌, map, ◌≡◌, eqb, ltb, length, take, get_or, set}
+use Rattle.std.specs.Prelude.{ℕ, suc, ◌+◌, ◌*◌, ◌/◌, ◌≤◌, Bool, true, cond, ◌&&◌, List, [], ◌∷◌, ◌++◌, map, ◌≡◌, eqb, ltb, length, take, get_or, set, Ok}
 use Rattle.text_bytes.specs.Bytes.{is_space}
 use Rattle.text_bytes.specs.Scan.{scan}
 use Rattle.utf8.specs.Characters.{utf8_of, characters}
-use Rattle.utf8.specs.declared.Utf8.TheVariants.{WellFormed}
 use Rattle.filter_functions.specs.Filters.{next_filter}
-use Rattle.filter_functions.specs.declared.FilterStep.{FilterStep}
+use Rattle.filter_functions.specs.Filters.{FilterStep}
 use Rattle.joins.specs.Joins.{answers, move_step, passing}
 use Rattle.records.specs.Records.{filter_record}
 use Rattle.records.specs.Many.{up_to, fitting, filter_at}
@@ -90,25 +89,25 @@ RowsBound = (s lent : List ℕ) (i : ℕ) → value_rows (fitting (filter_at s) 
 -- A list A whose rows are l and then that of its end, state 1, followed by B: l again, then all rows of B alone, moved
 abbrev pub JoinRows : Type 0
 JoinRows =
-    (a b : List ℕ) (l : List (List ℕ)) (r : List ℕ) → utf8_of a ≡ WellFormed → utf8_of b ≡ WellFormed → length (a ++ b) ≤ 4096 → rows a 0 ≡ l ++ (r ∷ []) → state r ≡ 1
+    (a b : List ℕ) (l : List (List ℕ)) (r : List ℕ) → utf8_of a ≡ Ok tt → utf8_of b ≡ Ok tt → length (a ++ b) ≤ 4096 → rows a 0 ≡ l ++ (r ∷ []) → state r ≡ 1
     → rows (a ++ b) 0 ≡ map (pass_row (length a) (scan is_space b 0)) l ++ map (move_row (length a) (characters a)) (rows b 0)
 
 -- where B begins with no space, A's rows are unchanged whole
 abbrev pub JoinRowsUnspaced : Type 0
 JoinRowsUnspaced =
-    (a b : List ℕ) (l : List (List ℕ)) (r : List ℕ) → utf8_of a ≡ WellFormed → utf8_of b ≡ WellFormed → length (a ++ b) ≤ 4096 → rows a 0 ≡ l ++ (r ∷ []) → state r ≡ 1
+    (a b : List ℕ) (l : List (List ℕ)) (r : List ℕ) → utf8_of a ≡ Ok tt → utf8_of b ≡ Ok tt → length (a ++ b) ≤ 4096 → rows a 0 ≡ l ++ (r ∷ []) → state r ≡ 1
     → scan is_space b 0 ≡ 0 → rows (a ++ b) 0 ≡ l ++ map (move_row (length a) (characters a)) (rows b 0)
 
 -- and where it begins with some, all but the last, v
 abbrev pub JoinRowsLast : Type 0
 JoinRowsLast =
-    (a b : List ℕ) (l : List (List ℕ)) (v r : List ℕ) → utf8_of a ≡ WellFormed → utf8_of b ≡ WellFormed → length (a ++ b) ≤ 4096 → rows a 0 ≡ l ++ (v ∷ r ∷ []) → state r ≡ 1
+    (a b : List ℕ) (l : List (List ℕ)) (v r : List ℕ) → utf8_of a ≡ Ok tt → utf8_of b ≡ Ok tt → length (a ++ b) ≤ 4096 → rows a 0 ≡ l ++ (v ∷ r ∷ []) → state r ≡ 1
     → rows (a ++ b) 0 ≡ l ++ (pass_row (length a) (scan is_space b 0) v ∷ map (move_row (length a) (characters a)) (rows b 0))
 
 -- So of three calls, on A, which is told to its end, and with room on B and on A followed by B: what the third writes, by what the other two write
 abbrev pub JoinCalls : Type 0
 JoinCalls =
-    (a b forA forB forBoth : List ℕ) (l : List (List ℕ)) (r : List ℕ) → utf8_of a ≡ WellFormed → utf8_of b ≡ WellFormed → length (a ++ b) ≤ 4096
+    (a b forA forB forBoth : List ℕ) (l : List (List ℕ)) (r : List ℕ) → utf8_of a ≡ Ok tt → utf8_of b ≡ Ok tt → length (a ++ b) ≤ 4096
     → Room b forB → Room (a ++ b) forBoth → fitting (filter_at a) forA 0 ≡ l ++ (r ∷ []) → state r ≡ 1
     → fitting (filter_at (a ++ b)) forBoth 0 ≡ map (pass_row (length a) (scan is_space b 0)) l ++ map (move_row (length a) (characters a)) (fitting (filter_at b) forB 0)
 

@@ -1,11 +1,9 @@
-pub mod Laws
-pub mod Eights
 pub mod Edge
 pub mod Lists
-pub mod Last
+pub mod Records
 pub mod Values
+pub mod Last
 pub mod Whole
+pub mod Returned
 pub mod Worked
 pub mod Shut
-pub mod Proved
-pub mod Returned

@@ -1,29 +1,42 @@
-// Demand 3 of what `filter_functions::next` returns: on two lists alone, and on the one followed by the other. The theorems of whole lists are in specs/ and proofs/.
+// What `filter_functions::next` returns on two lists alone, and on the one followed by the other.
 #![tactic(auto)]
 
-ghost use Rattle.std.specs.Prelude.{◌++◌, ◌≡◌, ◌+◌, ◌≤◌, length};
+ghost use Rattle.std.specs.Prelude.{◌++◌, ◌≡◌, ◌+◌, ◌≤◌, length, Ok};
 ghost use Rattle.text_bytes.specs.Bytes.{is_space};
 ghost use Rattle.utf8.specs.Characters.{utf8_of, characters};
 ghost use Rattle.text_bytes.specs.Scan.{scan};
-ghost use Rattle.utf8.specs.declared.Utf8.TheVariants as Utf8;
 ghost use Rattle.filter_functions.specs.Filters.{next_filter};
-ghost use Rattle.joins.specs.Joins.{move_step, Unchanged, Meets};
+ghost use Rattle.joins.specs.Joins.{move_step, Unchanged, Meets, Demand3, Demand3Returned};
 
-use filter_functions::FilterStep;
+use filter_functions::Listed;
+use stream::Step;
 use text_bytes::Place;
+
+// Of whole lists: what specs/Joins says of a step holds of filter_functions::next.
+#[tactic(auto, using(crate::proofs::Whole::demand_3))]
+pub fn demand_3()
+    ensures { Demand3 next_filter }
+{}
+
+// And of whatever a function returns that keeps its contract.
+#[tactic(auto, using(crate::proofs::Whole::demand_3_returned))]
+pub fn demand_3_returned()
+    ensures { Demand3Returned }
+{}
 
 // A step of a list alone, and the same step of both lists.
 #[derive(Clone, Copy)]
 pub struct Steps {
-    pub alone: FilterStep,
-    pub both: FilterStep,
+    pub alone: Step<Listed>,
+    pub both: Step<Listed>,
 }
 
 // A step of the first list: a value is returned again.
+// No struct of the three lists: its invariant would ask of callers what they prove as `requires` now, and the functions are public.
 pub fn first_list(first: &[u8], second: &[u8], both: &[u8], place: Place) -> Steps
     requires both_value { both.now ≡ first.now ++ second.now }
-    requires first_value { utf8_of first.now ≡ Utf8.WellFormed }
-    requires second_value { utf8_of second.now ≡ Utf8.WellFormed }
+    requires first_value { utf8_of first.now ≡ Ok tt }
+    requires second_value { utf8_of second.now ≡ Ok tt }
     requires both_len_bound { length both.now ≤ 4096 }
     ensures alone_value { (result.alone ≡ next_filter first.now place.0) × (result.both ≡ next_filter both.now place.0) }
     ensures unchanged { Unchanged (length first.now) (scan is_space second.now 0) result.alone result.both }
@@ -39,16 +52,16 @@ pub fn first_list(first: &[u8], second: &[u8], both: &[u8], place: Place) -> Ste
 // A step of the first list, the first step of the second, and a step of both lists.
 #[derive(Clone, Copy)]
 pub struct Meeting {
-    pub ended: FilterStep,
-    pub alone: FilterStep,
-    pub both: FilterStep,
+    pub ended: Step<Listed>,
+    pub alone: Step<Listed>,
+    pub both: Step<Listed>,
 }
 
 // Where the first list has ended, the second begins.
 pub fn seam(first: &[u8], second: &[u8], both: &[u8], place: Place) -> Meeting
     requires both_value { both.now ≡ first.now ++ second.now }
-    requires first_value { utf8_of first.now ≡ Utf8.WellFormed }
-    requires second_value { utf8_of second.now ≡ Utf8.WellFormed }
+    requires first_value { utf8_of first.now ≡ Ok tt }
+    requires second_value { utf8_of second.now ≡ Ok tt }
     requires both_len_bound { length both.now ≤ 4096 }
     ensures ended_value { (result.ended ≡ next_filter first.now place.0) × (result.alone ≡ next_filter second.now 0) × (result.both ≡ next_filter both.now place.0) }
     ensures meets { Meets (length first.now) (characters first.now) result.ended result.alone result.both }
@@ -64,10 +77,11 @@ pub fn seam(first: &[u8], second: &[u8], both: &[u8], place: Place) -> Meeting
 }
 
 // A step of the second list, from a place of its own: it is returned again, moved.
+#[tactic(auto, using(crate::proofs::Edge::next_shift))]
 pub fn second_list(first: &[u8], second: &[u8], both: &[u8], place: Place) -> Steps
     requires both_value { both.now ≡ first.now ++ second.now }
-    requires first_value { utf8_of first.now ≡ Utf8.WellFormed }
-    requires second_value { utf8_of second.now ≡ Utf8.WellFormed }
+    requires first_value { utf8_of first.now ≡ Ok tt }
+    requires second_value { utf8_of second.now ≡ Ok tt }
     requires both_len_bound { length both.now ≤ 4096 }
     requires place_in_bounds { place.0 ≤ length second.now }
     ensures alone_value { (result.alone ≡ next_filter second.now place.0) × (result.both ≡ next_filter both.now (length first.now + place.0)) }

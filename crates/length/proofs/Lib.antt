@@ -1,7 +1,7 @@
-pub mod Steps
+pub mod Units
 pub mod Shifts
 pub mod Values
-pub mod Stretches
+pub mod Growing
 pub mod Sames
-pub mod Worked
 pub mod Written
+pub mod Worked

@@ -1,4 +1,4 @@
--- How the number of a length was written.
+-- Of a whole text, and of a list's step: how the number of a length was written, and where the stretch of a refusal lies.
 use Prim.Native.Nat.{ℕ, ◌+◌, ◌≤◌, ◌<◌}
 use mathlib.Core.Bool.{true}
 use mathlib.Core.List.{List}
@@ -6,102 +6,121 @@ use mathlib.Core.Logic.{◌↔◌}
 use mathlib.Core.Path.{◌≡◌, refl, ap}
 use native.Mathlib.Omega.{arith}
 use borrow.Author.Tests.{ltb-false}
-use lib.Dec.{T, leb, ltb}
+use lib.Dec.{leb, ltb}
 use lib.ListN.{length, get_or}
+use Rattle.std.specs.Prelude.{Result, Ok, Err, MatchResult, MatchOption, ⊤, Some}
 use Rattle.text_bytes.specs.Bytes.{is_space}
-use Rattle.text_bytes.specs.Flow.{bind}
-use Rattle.text_bytes.specs.Moves.{place}
 use Rattle.text_bytes.specs.Scan.{scan}
 use Rattle.text_bytes.specs.declared.Place.{Place}
 use Rattle.text_bytes.proofs.Ranges.{either}
-use Rattle.stream.specs.Refusals.{refusal_of}
-use Rattle.stream.proofs.Insides.{text_edge, place_edge}
+use Rattle.stream.specs.Refusals.{Inside, admit_text, admit_place}
+use Rattle.stream.specs.Steps.{placed, edged, refused_step}
+use Rattle.stream.specs.declared.Read.{Read}
+use Rattle.stream.specs.declared.Refusal.{Refusal}
+use Rattle.stream.proofs.Binds.{bind_holds, bind_known, at_ok, at_err, weaker}
+use Rattle.stream.proofs.Edges.{Admitted, Placed, admit_holds, place_holds, edge_holds, refusal_inside}
+use Rattle.text_bytes.specs.Flow.{◌>>=◌}
+use Rattle.stream.specs.declared.Fault.{Fault}
+use Rattle.stream.proofs.Stretches.{Lies, LiesAt, LiesFrom, end_lies, data_lies}
 use Rattle.numbers.specs.Number.{is_plain, parse_number}
-use Rattle.numbers.specs.declared.Number.{Number}
-use Rattle.numbers.specs.declared.NumberRead.TheVariants as N
-use Rattle.numbers.proofs.Values.{numbers_read, values_all}
+use Rattle.numbers.specs.declared.Written.{Written}
+use Rattle.numbers.proofs.Values.{Taken, number_taken}
 use Rattle.numbers.proofs.Wholes.{number_whole, number_end}
-use Rattle.length.specs.Lengths.{unit_at, unit_width, parse_length, parse_list_length, parse_whole, from_str, next_length}
+use Rattle.length.specs.Lengths.{unit_at, unit_width, with_unit, parse_length, parse_list_length, parse_whole, from_str, next_length, LengthStep, value_step, parse_step}
 use Rattle.length.specs.declared.Length.{Length}
-use Rattle.length.specs.declared.LengthAnswer.{LengthAnswer}
-use Rattle.length.specs.declared.LengthAnswer.TheVariants as O
-use Rattle.length.specs.declared.LengthRead.TheVariants as L
-use Rattle.length.specs.declared.LengthStep.{LengthStep}
-use Rattle.length.specs.declared.LengthStep.TheVariants as S
-use Rattle.length.proofs.Values.{all_lengths, lengths_all, length_known}
+use Rattle.length.proofs.Values.{LengthTaken, length_taken, length_known}
 
--- Of a length at i and its number
-pub record Written (s : List ℕ) (i : ℕ) (l : Length) (n : Number) : Type 0 where
-  -- THEOREM (document 02, P3). It is `whole` exactly if no byte from its first to its end is a dot, `e` or `E`
-  pub whole : (n.whole ≡ true) ↔ ((j : ℕ) → scan is_space s i ≤ j → j < n.end.0 → is_plain (get_or s j 0) ≡ true)
+-- Of a length at i
+pub record Says (s : List ℕ) (i : ℕ) (w : Written Length) : Type 0 where
+  -- THEOREM. It is `whole` exactly if no byte from its number's first to its end is a dot, `e` or `E`
+  pub whole : (w.whole ≡ true) ↔ ((j : ℕ) → scan is_space s i ≤ j → j < w.end.0 → is_plain (get_or s j 0) ≡ true)
   -- THEOREM. Where it ended lies after its first byte, and the unit after that is inside the text
-  pub some : scan is_space s i < n.end.0
-  pub inside : n.end.0 + unit_width l.unit ≤ length s
-  -- THEOREM. The length passes its value on, and has the unit that stands where it ended
-  pub value : l.number ≡ n.value
-  pub unit : l.unit ≡ unit_at s n.end.0
+  pub some : scan is_space s i < w.end.0
+  pub inside : w.end.0 + unit_width w.value.unit ≤ length s
+  -- THEOREM. The length has the number that is read there, and the unit that stands where it ended
+  pub number : (n : Read _) × ((parse_number s i ≡ Ok n) × (w.value.number ≡ n.value.value))
+  pub unit : w.value.unit ≡ unit_at s w.end.0
 
 module _ (s : List ℕ) (i : ℕ) where
-  -- and reading goes on at p, after the unit
-  record Ends (l : Length) (n : Number) (p : Place) : Type 0 where
-    says : Written s i l n
-    after : n.end.0 + unit_width l.unit ≡ p.0
+  -- and reading goes on after the unit
+  record Ends (r : Read (Written Length)) : Type 0 where
+    says : Says s i r.value
+    after : r.value.end.0 + unit_width r.value.value.unit ≡ r.next.0
 
-  length_ends : all_lengths Ends (parse_length s i)
-  unfolding parse_length bind
+  length_ends : MatchResult (parse_length s i) Ends (LiesFrom s i)
+  unfolding parse_length
   length_ends =
-      values_all (all_lengths Ends) (λ n p. parse_number s i ≡ N.Value n p) (parse_number s i) L.Refused _ (numbers_read (parse_number s i)) (λ e. tt)
-      (λ n p e.
-      let k = number_end s i n p e in
-      let q : n.end.0 ≡ p.0 = ap (λ (x : Place). x.0) k.1.1 in
-      let u = unit_at s p.0 in
-      let t = length_known s i (record { number = n.value; unit = u }) n (place (p.0 + unit_width u)) (rw e) in
+      bind_known Ends (LiesFrom s i) (parse_number s i) _
+      (λ f e. at_err (Taken s i) (LiesFrom s i) (parse_number s i) f (number_taken s i) e)
+      (λ n e.
+      let k = number_end s i n e in
+      let q : n.value.end.0 ≡ n.next.0 = ap (λ (x : Place). x.0) k.1.1 in
+      let u = unit_at s n.next.0 in
+      let t = length_known s i (record { value = with_unit n.value u; next = record { 0 = n.next.0 + unit_width u } }) (rw e refl) in
       record {
-        says = record { whole = number_whole s i n p e; some = k.0; inside = rw q t.taken.inside; value = refl; unit = rw q };
-        after = rw q;
+        says = record { whole = number_whole s i n e; some = k.0; inside = rw q t.past.inside; number = (n, (e, refl)); unit = rw q refl };
+        after = rw q refl;
       })
 
-  list_length_ends : all_lengths (λ l n p. Written s i l n) (parse_list_length s i)
-  unfolding parse_list_length bind
-  list_length_ends =
-      either (leb (length s) i) (λ e. simp e tt)
-      (λ e. simp e (lengths_all (all_lengths (λ l n p. Written s i l n)) Ends (parse_length s i) L.Refused _ length_ends (λ e. tt) (λ l n p v. v.says)))
+  list_says : MatchResult (parse_list_length s i) (λ r. Says s i r.value) (LiesFrom s i)
+  unfolding parse_list_length
+  list_says =
+      either (leb (length s) i) (λ e. simp e (λ h. end_lies s))
+      (λ e. simp e (bind_holds Ends (λ r. Says s i r.value) (LiesFrom s i) (parse_length s i) _ length_ends (λ r v. v.says)))
 
-abbrev Whole : List ℕ → Length → Number → Type 0
-Whole s l n = Written s 0 l n × (n.end.0 + unit_width l.unit ≡ length s)
+abbrev Whole : List ℕ → Written Length → Type 0
+Whole s w = Says s 0 w × (w.end.0 + unit_width w.value.unit ≡ length s)
 
-whole_ends : (s : List ℕ) → all_lengths (λ l n p. Whole s l n) (parse_whole s)
+whole_ends : (s : List ℕ) → MatchResult (parse_whole s) (Whole s) (LiesAt (length s))
 unfolding parse_whole
 whole_ends s =
-    lengths_all (all_lengths (λ l n p. Whole s l n)) (Ends s 0) (parse_length s 0) L.Refused _ (length_ends s 0) (λ e. tt)
-    (λ l n p v. either (ltb p.0 (length s)) (λ t. simp t tt)
-    (λ t. simp t (v.says, omega (arith, v.after, v.says.inside, ltb-false p.0 (length s) t))))
+    bind_known (Whole s) (LiesAt (length s)) (parse_length s 0) _
+    (λ f e. at_err (LengthTaken s 0) (LiesFrom s 0) (parse_length s 0) f (length_taken s 0) e (omega arith))
+    (λ r e.
+    let t = length_known s 0 r e in
+    let v = at_ok (Ends s 0) (LiesFrom s 0) (parse_length s 0) r (length_ends s 0) e in
+    either (ltb r.next.0 (length s)) (λ q. simp q (data_lies s r.next.0 t.past.inside))
+    (λ q. simp q (v.says, omega (arith, v.after, t.past.inside, ltb-false r.next.0 (length s) q))))
 
--- of a value, if there is one
-abbrev Answers : List ℕ → LengthAnswer → Type 0
-Answers s (O.Value l n) = Whole s l n
-Answers s (O.Refused e) = T true
-
--- THEOREM (document 02, P3). So of a whole text, which ends with the unit
-pub whole_says : (s : List ℕ) (l : Length) (n : Number) → from_str s ≡ O.Value l n → Written s 0 l n × (n.end.0 + unit_width l.unit ≡ length s)
+-- THEOREM. So of a whole text, which ends with the unit; and a refusal's stretch starts and ends in the lent text, and not before it starts
+pub text_says : (s : List ℕ) → MatchResult (from_str s) (Whole s) (Inside (length s))
 unfolding from_str
-whole_says s l n q =
-    let w : Answers s (from_str s) =
-    text_edge (Answers s) s O.Refused _ (λ e h. tt)
-    (λ h. lengths_all (Answers s) (λ l n p. Whole s l n) (parse_whole s) (λ e. O.Refused (refusal_of s e)) _ (whole_ends s) (λ e. tt) (λ l n p v. v)) in
-    rw q at w
+text_says s =
+    bind_holds (λ _. Admitted s) (Whole s) (Inside (length s)) (admit_text s) _ (admit_holds s)
+    (λ _ _. edge_holds (Whole s) s (parse_whole s) (weaker (Whole s) (Whole s) (LiesAt (length s)) (Lies (length s)) (parse_whole s) (whole_ends s) (λ w v. v) (λ f v. v.lies)))
 
+pub whole_says : (s : List ℕ) (w : Written Length) → from_str s ≡ Ok w → Says s 0 w × (w.end.0 + unit_width w.value.unit ≡ length s)
+whole_says s w q = at_ok (Whole s) (Inside (length s)) (from_str s) w (text_says s) q
+
+pub stretch_inside : (s : List ℕ) (e : Refusal) → from_str s ≡ Err e → Inside (length s) e
+stretch_inside s e q = at_err (Whole s) (Inside (length s)) (from_str s) e (text_says s) q
+
+-- what is said of a step
 abbrev Steps : List ℕ → ℕ → LengthStep → Type 0
-Steps s i (S.Value l n p) = Written s i l n
-Steps s i (S.End p) = T true
-Steps s i (S.Refused e p) = T true
+Steps s i t = MatchResult t.item (λ o. MatchOption o ⊤ (Says s i)) (Inside (length s))
 
--- THEOREM. And of a list's step
-pub step_says : (s : List ℕ) (i : ℕ) (l : Length) (n : Number) (p : Place) → next_length s i ≡ S.Value l n p → Written s i l n
-unfolding next_length
-step_says s i l n p q =
-    let w : Steps s i (next_length s i) =
-    place_edge (Steps s i) s (λ e. S.Refused e _) _ (λ e h. tt) i
-    (λ h. either (leb (length s) i) (λ t. simp t tt)
-    (λ t. simp t (lengths_all (Steps s i) (λ l n p. Written s i l n) (parse_list_length s i) (λ e. S.Refused (refusal_of s e) (place (length s))) _ (list_length_ends s i) (λ e. tt) (λ l n p v. v)))) in
-    rw q at w
+steps_of : (s : List ℕ) (i : ℕ) (r : Result (Read (Written Length)) Fault) → MatchResult r (λ x. Says s i x.value) (Lies (length s))
+    → Steps s i (edged s (r >>= (λ (x : Read (Written Length)). Ok (record { value = Some x.value; next = x.next }))))
+steps_of s i (Ok r) v = v
+steps_of s i (Err e) v = refusal_inside s v
+
+steps_from : (s : List ℕ) (i : ℕ) (r : Result (Unit {0}) Refusal) (k : LengthStep) → MatchResult r (λ _. Placed s i) (Inside (length s)) → (Placed s i → Steps s i k) → Steps s i (placed i r k)
+steps_from s i (Ok u) k v f = f v
+steps_from s i (Err e) k v f = v
+
+-- THEOREM. And so of a list's step
+pub next_says : (s : List ℕ) (i : ℕ) → Steps s i (next_length s i)
+unfolding next_length parse_step
+next_says s i =
+    steps_from s i (admit_place s i) _ (place_holds s i)
+    (λ p. either (leb (length s) i) (λ t. simp t tt)
+    (λ t. simp t
+    (steps_of s i (parse_list_length s i)
+    (weaker (λ x. Says s i x.value) (λ x. Says s i x.value) (LiesFrom s i) (Lies (length s)) (parse_list_length s i) (list_says s i) (λ w v. v) (λ f v. (v p.inside).lies)))))
+
+-- so of a length that a step hands out, and of a step that refuses
+pub step_says : (s : List ℕ) (i : ℕ) (w : Written Length) (p : Place) → next_length s i ≡ value_step w p → Says s i w
+step_says s i w p q = let v = next_says s i in rw q at v
+
+pub step_inside : (s : List ℕ) (i : ℕ) (e : Refusal) (p : Place) → next_length s i ≡ refused_step e p → Inside (length s) e
+step_inside s i e p q = let v = next_says s i in rw q at v

@@ -1,82 +1,89 @@
--- A length at a place of a text. Quotations are of document 01.
-use Rattle.std.specs.Prelude.{ℕ, ◌+◌, cond, List, leb, ltb, length, drop}
-use Rattle.text_bytes.specs.Bytes.{is_space}
-use Rattle.text_bytes.specs.Flow.{bind}
-use Rattle.text_bytes.specs.Scan.{scan}
+-- A length at a place of a text. What stands in quotation marks is the rule.
+use Rattle.std.specs.Prelude.{ℕ, ◌+◌, List, leb, ltb, length, drop, Result, Ok, Err, Option, Some, None, if◌then◌else◌}
+use Rattle.text_bytes.specs.Flow.{◌>>=◌}
 use Rattle.text_bytes.specs.Words.{ascii, starts_with}
 use Rattle.text_bytes.specs.Moves.{place}
-use Rattle.stream.specs.Faults.{unexpected_end, unexpected_data, parse_list_separator}
-use Rattle.stream.specs.Refusals.{refusal_of, admit_text, admit_place, then_admitted}
-use Rattle.numbers.specs.Number.{parse_number}
-use Rattle.numbers.specs.Moves.{then_number}
-use Rattle.length.specs.Moves.{then_length}
+use Rattle.text_bytes.specs.declared.Place.{Place}
+use Rattle.stream.specs.Faults.{unexpected_end, unexpected_data}
+use Rattle.stream.specs.Refusals.{at_edge, admit_text, admit_place}
+use Rattle.stream.specs.Steps.{placed, edged}
+use Rattle.stream.specs.declared.Fault.{Fault}
+use Rattle.stream.specs.declared.Refusal.{Refusal}
+use Rattle.stream.specs.declared.Read.{Read}
+use Rattle.stream.specs.declared.Step.{Step}
+use Rattle.numbers.specs.Moves.{Number}
+use Rattle.numbers.specs.Number.{parse_number, after_item}
+use Rattle.numbers.specs.declared.Written.{Written}
 use Rattle.length.specs.declared.LengthUnit.{LengthUnit}
 use Rattle.length.specs.declared.LengthUnit.TheVariants as U
-use Rattle.length.specs.declared.LengthRead.{LengthRead}
-use Rattle.length.specs.declared.LengthRead.TheVariants as L
-use Rattle.length.specs.declared.LengthAnswer.{LengthAnswer}
-use Rattle.length.specs.declared.LengthAnswer.TheVariants as O
-use Rattle.length.specs.declared.LengthStep.{LengthStep}
-use Rattle.length.specs.declared.LengthStep.TheVariants as S
+use Rattle.length.specs.declared.Length.{Length}
 
--- "a lower-case unit (`%`, em, ex, px, in, cm, mm, pt, pc) or none": the last four, or none
-unfoldable pub unit_rest : List ℕ → ℕ → LengthUnit
-unit_rest s i =
-    cond (starts_with (ascii "cm") (drop i s)) U.Cm
-    (cond (starts_with (ascii "mm") (drop i s)) U.Mm
-    (cond (starts_with (ascii "pt") (drop i s)) U.Pt
-    (cond (starts_with (ascii "pc") (drop i s)) U.Pc U.None)))
-
--- and all of them
+-- "a lower-case unit (`%`, em, ex, px, in, cm, mm, pt, pc) or none"
 unfoldable pub unit_at : List ℕ → ℕ → LengthUnit
 unit_at s i =
-    cond (starts_with (ascii "%") (drop i s)) U.Percent
-    (cond (starts_with (ascii "em") (drop i s)) U.Em
-    (cond (starts_with (ascii "ex") (drop i s)) U.Ex
-    (cond (starts_with (ascii "px") (drop i s)) U.Px
-    (cond (starts_with (ascii "in") (drop i s)) U.In (unit_rest s i)))))
+    if starts_with (ascii "%") (drop i s) then U.Percent
+    else (if starts_with (ascii "em") (drop i s) then U.Em
+    else (if starts_with (ascii "ex") (drop i s) then U.Ex
+    else (if starts_with (ascii "px") (drop i s) then U.Px
+    else (if starts_with (ascii "in") (drop i s) then U.In
+    else (if starts_with (ascii "cm") (drop i s) then U.Cm
+    else (if starts_with (ascii "mm") (drop i s) then U.Mm
+    else (if starts_with (ascii "pt") (drop i s) then U.Pt
+    else (if starts_with (ascii "pc") (drop i s) then U.Pc else U.None))))))))
 
 -- how many bytes a unit's word has
 unfoldable pub unit_width : LengthUnit → ℕ
 unit_width U.None = 0
-unit_width U.Em = 2
-unit_width U.Ex = 2
-unit_width U.Px = 2
-unit_width U.In = 2
-unit_width U.Cm = 2
-unit_width U.Mm = 2
-unit_width U.Pt = 2
-unit_width U.Pc = 2
 unit_width U.Percent = 1
+unit_width u = 2
+
+abbrev pub with_unit : Number → LengthUnit → Written Length
+with_unit n u = record { value = record { number = n.value; unit = u }; whole = n.whole; end = n.end }
 
 -- "A length is a number and a lower-case unit .. or none"
-unfoldable pub parse_length : List ℕ → ℕ → LengthRead
-parse_length s at =
-    then_number L.Refused (parse_number s at) (λ n p.
-    bind (unit_at s p.0) (λ u.
-    bind (unit_width u) (λ w. L.Value (record { number = n.value; unit = u }) n (place (p.0 + w)))))
+unfoldable pub parse_length : List ℕ → ℕ → Result (Read (Written Length)) Fault
+parse_length s at = do
+  read ← parse_number s at
+  Ok (let u = unit_at s read.next.0 in record { value = with_unit read.value u; next = place (read.next.0 + unit_width u) })
 
 -- A length of a list, as a number of one: "4 at the end of the text, else number, spaces, one optional comma"
-unfoldable pub parse_list_length : List ℕ → ℕ → LengthRead
+unfoldable pub parse_list_length : List ℕ → ℕ → Result (Read (Written Length)) Fault
 parse_list_length s at =
-    cond (leb (length s) at) (L.Refused (unexpected_end s))
-    (then_length L.Refused (parse_length s at) (λ l n p.
-    bind (scan is_space s p.0) (λ i.
-    bind (parse_list_separator s i) (λ j. L.Value l n (place j)))))
+    if leb (length s) at then Err (unexpected_end s)
+    else (do
+      read ← parse_length s at
+      Ok (record { value = read.value; next = place (after_item s read.next.0) }))
 
 -- "Whole texts allow leading spaces, no trailing ones (6)."
-unfoldable pub parse_whole : List ℕ → LengthRead
-parse_whole s =
-    then_length L.Refused (parse_length s 0) (λ l n p.
-    cond (ltb p.0 (length s)) (L.Refused (unexpected_data s p.0)) (L.Value l n p))
+unfoldable pub parse_whole : List ℕ → Result (Written Length) Fault
+parse_whole s = do
+  read ← parse_length s 0
+  if ltb read.next.0 (length s) then Err (unexpected_data s read.next.0) else Ok read.value
 
 -- the same at the edge: "Order: 1, 2, 3, then the first that the reading below meets."
-unfoldable pub from_str : List ℕ → LengthAnswer
-from_str s = then_admitted O.Refused (admit_text s) (then_length (λ e. O.Refused (refusal_of s e)) (parse_whole s) (λ l n p. O.Value l n))
+unfoldable pub from_str : List ℕ → Result (Written Length) Refusal
+from_str s = do
+  _ ← admit_text s
+  at_edge s (parse_whole s)
 
--- "A list step refused by 1 to 3 gives its list place back as it came; refused by 4 to 15, or with nothing left, it gives the end of the text." 22 to 24 are as 9 and 10 (document 02)
+-- a list has nothing left at the end of the text, else a length
+unfoldable pub parse_step : List ℕ → ℕ → Result (Read (Option (Written Length))) Fault
+parse_step s i =
+    if leb (length s) i then Ok (record { value = None; next = place (length s) })
+    else (do
+      read ← parse_list_length s i
+      Ok (record { value = Some read.value; next = read.next }))
+
+-- a step of a list of lengths
+abbrev pub LengthStep : Type 0
+LengthStep = Step (Option (Written Length))
+
+abbrev pub value_step : Written Length → Place → LengthStep
+value_step w p = record { item = Ok (Some w); place = p }
+
+abbrev pub end_step : Place → LengthStep
+end_step p = record { item = Ok None; place = p }
+
+-- "A list step refused by 1 to 3 gives its list place back as it came; refused by 4 to 15, or with nothing left, it gives the end of the text." 22 to 24 are as 9 and 10
 unfoldable pub next_length : List ℕ → ℕ → LengthStep
-next_length s i =
-    then_admitted (λ e. S.Refused e (place i)) (admit_place s i)
-    (cond (leb (length s) i) (S.End (place (length s)))
-    (then_length (λ e. S.Refused (refusal_of s e) (place (length s))) (parse_list_length s i) (λ l n p. S.Value l n p)))
+next_length s i = placed i (admit_place s i) (edged s (parse_step s i))

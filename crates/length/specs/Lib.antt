@@ -1,3 +1,3 @@
-pub mod Moves
 pub mod Lengths
 pub mod Paper
+pub mod Lists

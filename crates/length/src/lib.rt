@@ -1,15 +1,17 @@
 // A length, and a step of a list of lengths.
 #![tactic(auto)]
 
-ghost use Rattle.std.specs.Prelude.{◌≡◌, ◌≤◌, length};
-ghost use Rattle.length.specs.Lengths.{unit_at, unit_rest, unit_width, parse_length, parse_list_length, parse_whole, from_str, next_length};
+ghost use Rattle.std.specs.Prelude.{◌≡◌, ◌≤◌, length, false};
+ghost use Rattle.std.specs.Iterator.{at_most};
+ghost use Rattle.length.specs.Lengths.{unit_at, unit_width, parse_length, parse_list_length, parse_step, parse_whole, from_str, next_length};
+ghost use Rattle.length.specs.Lists.{StepsOn, left};
 ghost use Rattle.length.specs.Paper.{paper, paper_step};
 
-use numbers::{Number, NumberRead};
-use stream::{Admission, Fault, Refusal};
+use numbers::Written;
+use stream::{Fault, Read, Refusal, Step};
 use text_bytes::Place;
 
-#[derive(Clone, Copy)]
+#[derive(Clone, Copy, Debug, PartialEq, Eq)]
 pub enum LengthUnit {
     None,
     Em,
@@ -23,83 +25,55 @@ pub enum LengthUnit {
     Percent,
 }
 
-#[derive(Clone, Copy)]
+// svgtypes' own type, as `Angle` is: one over its unit would have fields of another name.
+#[derive(Clone, Copy, Debug, PartialEq)]
 pub struct Length {
     pub number: f64,
     pub unit: LengthUnit,
 }
 
-// The length, its number as it was written, and the place where reading goes on; or why there is none.
-#[derive(Clone, Copy)]
-pub enum LengthRead {
-    Value(Length, Number, Place),
-    Refused(Fault),
-}
-
-// The length and its number as it was written, or why there is none.
-#[derive(Clone, Copy)]
-pub enum LengthAnswer {
-    Value(Length, Number),
-    Refused(Refusal),
-}
-
-// A step of a list: a length and its number with the next list place, the end with its place, or a refusal with the list place given back.
-#[derive(Clone, Copy)]
-pub enum LengthStep {
-    Value(Length, Number, Place),
-    End(Place),
-    Refused(Refusal, Place),
-}
-
 // A whole text: leading spaces are allowed, trailing ones are not.
-pub fn from_str(text: &[u8]) -> LengthAnswer
+// As `angle`'s and `color`'s but for the reader: two lines, and a function over a reader would want a closure's contract.
+#[tactic(auto, unfolding(crate::specs::Lengths::from_str), using(stream::proofs::Edges::admitted_utf8))]
+pub fn from_str(text: &[u8]) -> Result<Written<Length>, Refusal>
     ensures value { result ≡ from_str text.now }
     ensures result_value { paper result ≡ paper (from_str text.now) }
 {
-    match stream::admit_text(text) {
-        Admission::Refused(refusal) => LengthAnswer::Refused(refusal),
-        Admission::Admitted => match parse_whole(text) {
-            LengthRead::Refused(e) => LengthAnswer::Refused(stream::refusal_of(text, e)),
-            LengthRead::Value(l, n, _) => LengthAnswer::Value(l, n),
-        },
-    }
+    stream::admit_text(text)?;
+    parse_whole(text).map_err(|e| stream::refusal_of(text, e))
 }
 
 // A length, and nothing after it.
-fn parse_whole(text: &[u8]) -> LengthRead
-    requires { length text.now ≤ 4096 }
+#[tactic(auto, unfolding(crate::specs::Lengths::parse_whole))]
+fn parse_whole(text: &[u8]) -> Result<Written<Length>, Fault>
     ensures { result ≡ parse_whole text.now }
 {
-    match parse_length(text, Place(0)) {
-        LengthRead::Refused(e) => LengthRead::Refused(e),
-        LengthRead::Value(l, n, p) => {
-            let i = p.0;
-            if i < text.len() {
-                return LengthRead::Refused(stream::unexpected_data(text, p));
-            }
-            LengthRead::Value(l, n, p)
-        }
-    }
+    parse_length(text, Place(0))?.whole(text)
 }
 
 // A number, and a unit directly after it.
-pub fn parse_length(text: &[u8], at: Place) -> LengthRead
-    requires { length text.now ≤ 4096 }
+#[tactic(auto, unfolding(crate::specs::Lengths::parse_length), using(crate::proofs::Units::unit_ends))]
+pub fn parse_length(text: &[u8], at: Place) -> Result<Read<Written<Length>>, Fault>
     ensures { result ≡ parse_length text.now at.0 }
 {
-    match numbers::parse_number(text, at) {
-        NumberRead::Refused(e) => LengthRead::Refused(e),
-        NumberRead::Value(n, p) => {
-            let i = p.0;
-            let unit = unit_at(text, p);
-            let width = unit_width(unit);
-            let number = n.value;
-            LengthRead::Value(Length { number, unit }, n, Place(i + width))
-        }
-    }
+    let read = numbers::parse_number(text, at)?;
+    let n = read.value;
+    let unit = unit_at(text, read.next);
+    Ok(Read {
+        value: Written {
+            value: Length {
+                number: n.value,
+                unit,
+            },
+            whole: n.whole,
+            end: n.end,
+        },
+        next: Place(read.next.0 + unit_width(unit)),
+    })
 }
 
 // The unit whose word stands at a place. Units are in lower case.
+#[tactic(auto, unfolding(crate::specs::Lengths::unit_at))]
 fn unit_at(text: &[u8], at: Place) -> LengthUnit
     ensures { result ≡ unit_at text.now at.0 }
 {
@@ -118,12 +92,6 @@ fn unit_at(text: &[u8], at: Place) -> LengthUnit
     if text_bytes::starts_with(text, at, b"in") {
         return LengthUnit::In;
     }
-    unit_rest(text, at)
-}
-
-fn unit_rest(text: &[u8], at: Place) -> LengthUnit
-    ensures { result ≡ unit_rest text.now at.0 }
-{
     if text_bytes::starts_with(text, at, b"cm") {
         return LengthUnit::Cm;
     }
@@ -140,6 +108,7 @@ fn unit_rest(text: &[u8], at: Place) -> LengthUnit
 }
 
 // How many bytes a unit's word has.
+#[tactic(auto, unfolding(crate::specs::Lengths::unit_width))]
 pub fn unit_width(unit: LengthUnit) -> usize
     ensures { result ≡ unit_width unit }
 {
@@ -151,41 +120,87 @@ pub fn unit_width(unit: LengthUnit) -> usize
 }
 
 // A length of a list. The end of the text is judged before spaces are skipped.
-pub fn parse_list_length(text: &[u8], at: Place) -> LengthRead
-    requires { length text.now ≤ 4096 }
+#[tactic(auto, unfolding(crate::specs::Lengths::parse_list_length))]
+pub fn parse_list_length(text: &[u8], at: Place) -> Result<Read<Written<Length>>, Fault>
     ensures { result ≡ parse_list_length text.now at.0 }
 {
-    let i = at.0;
-    if text.len() <= i {
-        return LengthRead::Refused(stream::unexpected_end(text));
+    stream::goes_on(text, at)?;
+    Ok(numbers::item(text, parse_length(text, at)?))
+}
+
+// What a list of lengths has at a place: a length, or its end.
+#[tactic(auto, unfolding(crate::specs::Lengths::parse_step))]
+fn parse_step(text: &[u8], at: Place) -> Result<Read<Option<Written<Length>>>, Fault>
+    ensures { result ≡ parse_step text.now at.0 }
+{
+    if at.0 >= text.len() {
+        return Ok(Read {
+            value: None,
+            next: Place(text.len()),
+        });
     }
-    match parse_length(text, at) {
-        LengthRead::Refused(e) => LengthRead::Refused(e),
-        LengthRead::Value(l, n, p) => {
-            let next = text_bytes::skip_spaces(text, p);
-            LengthRead::Value(l, n, stream::parse_list_separator(text, next))
+    Ok(parse_list_length(text, at)?.map(Some))
+}
+
+// One step of a list of lengths, from a list place.
+// As `filter_functions::next` but for the reader, whose contract a function over a reader would want as a closure's.
+#[tactic(auto, unfolding(crate::specs::Lengths::next_length), using(stream::proofs::Edges::placed_utf8))]
+pub fn next(text: &[u8], place: Place) -> Step<Option<Written<Length>>>
+    ensures value { result ≡ next_length text.now place.0 }
+    ensures result_value { paper_step result ≡ paper_step (next_length text.now place.0) }
+{
+    if let Err(refusal) = stream::admit_place(text, place) {
+        return Step::refused(refusal, place);
+    }
+    Step::edged(text, parse_step(text, place))
+}
+
+// A list of lengths, one by one: each call of `next` is one step, and a refusal is the last.
+// As `FilterValueListParser`: a generic one would want the reader, its contract and its measure as ghost members of a trait, which is no shorter.
+#[derive(Drop)]
+pub struct LengthListParser<'a> {
+    text: &'a [u8],
+    place: Place,
+    ended: bool,
+}
+
+impl<'a> LengthListParser<'a> {
+    pub fn new(text: &'a [u8]) -> LengthListParser<'a>
+        ensures text { result.text.now ≡ text.now }
+        ensures place { result.place.0 ≡ 0 }
+        ensures ended { result.ended ≡ false }
+    {
+        LengthListParser {
+            text,
+            place: Place(0),
+            ended: false,
         }
     }
 }
 
-// One step of a list of lengths, from a list place.
-pub fn next(text: &[u8], place: Place) -> LengthStep
-    ensures value { result ≡ next_length text.now place.0 }
-    ensures result_value { paper_step result ≡ paper_step (next_length text.now place.0) }
-{
-    match stream::admit_place(text, place) {
-        Admission::Refused(refusal) => LengthStep::Refused(refusal, place),
-        Admission::Admitted => {
-            let i = place.0;
-            let end = text.len();
-            if end <= i {
-                return LengthStep::End(Place(end));
+impl<'a> Iterator for LengthListParser<'a> {
+    type Item = Result<Written<Length>, Refusal>;
+
+    ghost next_gives = { StepsOn };
+
+    ghost remaining = { λ s. at_most (left s) };
+
+    #[tactic(auto, using(crate::proofs::Growing::step_grows))]
+    fn next(&mut self) -> Option<Result<Written<Length>, Refusal>> {
+        if self.ended {
+            return None;
+        }
+        let step = next(self.text, self.place);
+        self.place = step.place;
+        match step.item {
+            Ok(Some(length)) => Some(Ok(length)),
+            Ok(None) => {
+                self.ended = true;
+                None
             }
-            match parse_list_length(text, place) {
-                LengthRead::Refused(e) => {
-                    LengthStep::Refused(stream::refusal_of(text, e), Place(end))
-                }
-                LengthRead::Value(l, n, p) => LengthStep::Value(l, n, p),
+            Err(refusal) => {
+                self.ended = true;
+                Some(Err(refusal))
             }
         }
     }

@@ -1,3 +1,2 @@
 pub mod Pastes
 pub mod Fronts
-pub mod Figures

@@ -1,5 +1,5 @@
 -- A text written into bytes that are lent.
-use Rattle.std.specs.Prelude.{ℕ, cond, List, ◌++◌, leb, length, drop}
+use Rattle.std.specs.Prelude.{ℕ, List, ◌++◌, leb, length, drop, if◌then◌else◌}
 
 -- the text at the front, then what lay behind it
 abbrev pub over : List ℕ → List ℕ → List ℕ
@@ -7,4 +7,4 @@ over w lent = w ++ drop (length w) lent
 
 -- a text for which there is no room leaves them as they came
 unfoldable pub written : List ℕ → List ℕ → List ℕ
-written w lent = cond (leb (length w) (length lent)) (over w lent) lent
+written w lent = if leb (length w) (length lent) then over w lent else lent

@@ -5,6 +5,7 @@ ghost use Rattle.std.specs.Prelude.{◌≡◌, [], ◌∷◌, ◌+◌, ◌≤◌
 ghost use Rattle.std.proofs.Math.Seq.{paste};
 ghost use Rattle.lent.specs.Decimals.{decimal};
 
+#[tactic(auto, using(crate::proofs::Pastes::byte_stored))]
 pub fn put_byte(out: &mut [u8], at: usize, b: u8)
     requires { at < length out.old }
     ensures { out.new ≡ paste out.old at (b ∷ []) 1 }
@@ -12,55 +13,46 @@ pub fn put_byte(out: &mut [u8], at: usize, b: u8)
     out[at] = b;
 }
 
+// At a place of what is lent, and not into a part of it: so docs/PROMISES.md has it.
 pub fn put(out: &mut [u8], at: usize, text: &[u8])
     requires { at + length text.now ≤ length out.old }
     ensures { out.new ≡ paste out.old at text.now (length text.now) }
 {
-    let mut k: usize = 0;
-    while k < text.len() {
-        out[at + k] = text[k];
-        k += 1;
-    }
+    out[at..at + text.len()].copy_from_slice(text);
 }
 
-// A number without leading zeros; how many digits it has.
+// A number without leading zeros; how many digits it has. Promised (docs/PROMISES.md), though no crate calls it.
+#[tactic(auto, unfolding(crate::specs::Decimals::decimal))]
 pub fn put_decimal(out: &mut [u8], at: usize, n: u8) -> usize
     requires { at + length (decimal n) ≤ length out.old }
     ensures value { result ≡ length (decimal n) }
     ensures out_after { out.new ≡ paste out.old at (decimal n) (length (decimal n)) }
 {
     if n < 10 {
-        out[at] = b'0' + n;
-        return 1;
+        put(out, at, &[b'0' + n]);
+        1
+    } else if n < 100 {
+        put(out, at, &[b'0' + n / 10, b'0' + n % 10]);
+        2
+    } else {
+        put(
+            out,
+            at,
+            &[b'0' + n / 100, b'0' + n / 10 % 10, b'0' + n % 10],
+        );
+        3
     }
-    if n < 100 {
-        out[at] = b'0' + n / 10;
-        out[at + 1] = b'0' + n % 10;
-        return 2;
-    }
-    out[at] = b'0' + n / 100;
-    out[at + 1] = b'0' + n / 10 % 10;
-    out[at + 2] = b'0' + n % 10;
-    3
 }
 
-// Zeros for all that is lent, bytes or numbers.
+// Zeros for all that is lent, bytes or numbers. Two: over any `T: Copy` the proof that std's `fill` never fails did not close.
 pub fn clear(out: &mut [u8])
     ensures { out.new ≡ replicate (length out.old) 0 }
 {
-    let mut k: usize = 0;
-    while k < out.len() {
-        out[k] = 0;
-        k += 1;
-    }
+    out.fill(0);
 }
 
 pub fn clear_numbers(out: &mut [usize])
     ensures { out.new ≡ replicate (length out.old) 0 }
 {
-    let mut k: usize = 0;
-    while k < out.len() {
-        out[k] = 0;
-        k += 1;
-    }
+    out.fill(0);
 }

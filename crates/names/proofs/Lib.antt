@@ -1,7 +1,6 @@
 pub mod Orders
 pub mod Tables
 pub mod Naming
-pub mod Lent
 pub mod Searches
 pub mod Backs
 pub mod Firsts

@@ -9,6 +9,7 @@ use Rattle.text_bytes.specs.Words.{ascii, same, lower_of, lowered}
 use Rattle.text_bytes.proofs.Wording.{same_refl, same_eq}
 use Rattle.text_bytes.specs.Bytes.{within}
 use Rattle.text_bytes.proofs.Ranges.{either, within_ge}
+use Rattle.std.specs.Prelude.{Some, None}
 use Rattle.names.specs.Keywords.{Keyword, entry, keywords}
 use Rattle.names.specs.Look.{channels, look_up, named_of}
 use Rattle.names.specs.Search.{nth}
@@ -25,7 +26,7 @@ at es k = get_or es k (entry "" 0 0 0)
 
 module _ (w : List ℕ) where
   look_at : (es : List Keyword) (m : ℕ) → m < length es → (at es m).name ≡ w → ((j : ℕ) → j < m → (at es j).name ≡ w → ⊥)
-      → look_up es w ≡ N.Keyword (channels (at es m))
+      → look_up es w ≡ Some (N.Keyword (channels (at es m)))
   unfolding look_up
   look_at [] m h e f = absurd (omega arith)
   look_at (x ∷ xs) zero h e f = simp (e, same_refl w)
@@ -39,7 +40,7 @@ module _ (w : List ℕ) where
 
 module _ (w : List ℕ) where
   -- an entry's name, in letters of either case, is its colour
-  pub named_keyword : (k : ℕ) → k < 147 → (nth k).name ≡ lowered w → named_of w ≡ N.Keyword (channels (nth k))
+  pub named_keyword : (k : ℕ) → k < 147 → (nth k).name ≡ lowered w → named_of w ≡ Some (N.Keyword (channels (nth k)))
   unfolding named_of
   named_keyword k h e =
       look_at (lowered w) keywords k (omega (arith, table_count)) e
@@ -51,11 +52,11 @@ module _ (w : List ℕ) where
   named_unlisted f = look_none (lowered w) keywords (λ j l. f j (omega (arith, table_count)))
 
   -- no entry's name, and not `transparent`: no colour
-  pub named_unknown : ((k : ℕ) → k < 147 → (nth k).name ≡ lowered w → ⊥) → (ascii "transparent" ≡ lowered w → ⊥) → named_of w ≡ N.Unknown
+  pub named_unknown : ((k : ℕ) → k < 147 → (nth k).name ≡ lowered w → ⊥) → (ascii "transparent" ≡ lowered w → ⊥) → named_of w ≡ None
   unfolding look_up
   named_unknown f g = named_unlisted f ∙ simp (same_not (lowered w) (ascii "transparent") g)
 
-  pub named_transparent : lowered w ≡ ascii "transparent" → named_of w ≡ N.Transparent
+  pub named_transparent : lowered w ≡ ascii "transparent" → named_of w ≡ Some N.Transparent
   unfolding named_of look_up keywords same
   named_transparent e = rw e refl
 
@@ -75,7 +76,7 @@ first_letter w p q a e = ap (λ l. get_or l 0 0) e ∙ (head_lowered w ∙ (ap l
 
 -- a word that begins below the letters names no colour
 module _ (w : List ℕ) {b c : ℕ} (p : b ≡ get_or w 0 0) (q : c ≡ lower_of b) where
-  pub named_low : c < 97 → N.Unknown ≡ named_of w
+  pub named_low : c < 97 → None ≡ named_of w
   named_low h =
       sym (named_unknown w
       (λ k l e. let f : get_or (nth k).name 0 0 ≡ c = first_letter w p q (nth k).name e in omega (arith, within_ge 97 122 _ (table_letter k l)))

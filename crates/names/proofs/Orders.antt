@@ -1,147 +1,84 @@
 -- The laws of the order of words, and of the loop that compares.
-use Prim.Native.Nat.{ℕ, zero, suc, ◌+◌, ◌≤◌, ◌<◌}
-use mathlib.Core.Bool.{Bool, true, false}
-use mathlib.Core.List.{List, [], ◌∷◌}
-use mathlib.Core.Path.{◌≡◌, refl}
-use native.Mathlib.Omega.{arith}
-use borrow.Author.Tests.{lt-ltb, le-ltb, ltb-true, ltb-false}
-use lib.Dec.{ltb}
-use lib.ListN.{length, get_or, drop, drop_of_length-le, length-map}
-use lib.Seq.{drop-cons}
+use Rattle.std.proofs.Common.{ℕ, zero, suc, ◌≡◌, ◌<◌, ◌≤◌, true, false, List, [], ◌∷◌, length, get_or, drop, min, refl, sym, ap, ◌∙◌, arith}
+use Rattle.std.specs.Ordering.{nat_cmp, is_eq, is_ne, ordering_index, ordering_then}
+use Rattle.std.specs.declared.cmp.Ordering.{Ordering}
+use Rattle.std.specs.declared.cmp.Ordering.TheVariants.{Less, Equal, Greater}
+use Rattle.std.specs.Cmp.Lexicographic.{texts_ties, same_text}
+use Rattle.std.proofs.lemmas.Cmp.{nat_list_cmp_total, tied_itself, alike_right}
+use Rattle.std.proofs.lemmas.Bool.Decides.{nat_tests}
 use Rattle.text_bytes.specs.Words.{lower_of, lowered}
-use Rattle.names.specs.Search.{order}
-use Rattle.names.specs.declared.Order.TheVariants.{Before, Same, After}
+use Rattle.names.specs.Order.{order}
 
--- the three ways in which two numbers stand
-data Stand (x y : ℕ) : Type 0 where
-  less : x < y → Stand x y
-  alike : x ≡ y → Stand x y
-  more : y < x → Stand x y
+pub order_trans : (a b c : List ℕ) → order a b ≡ Less → order b c ≡ Less → order a c ≡ Less
+order_trans a b c p q = nat_list_cmp_total.trans a b c p q
 
-stand : (x y : ℕ) → Stand x y
-stand x y = go (ltb x y) (ltb y x) refl refl
+pub order_same : (a b : List ℕ) → order a b ≡ Equal → a ≡ b
+order_same a b e = same_text a b (sym (texts_ties a b ∙ ap is_eq e))
+
+-- two orders that are told apart
+apart : {o p : Ordering} → ordering_index o < ordering_index p → o ≡ p → ⊥
+apart h e = let z = ap ordering_index e in omega (arith, z)
+
+-- of two words in order, the first is not the second
+pub before_other : (a b : List ℕ) → order a b ≡ Less → a ≡ b → ⊥
+before_other a b p e = apart (omega arith) (sym p ∙ (ap (order a) (sym e) ∙ tied_itself nat_list_cmp_total a))
+
+pub after_other : (a b : List ℕ) → order a b ≡ Greater → a ≡ b → ⊥
+after_other a b p e = apart (omega arith) (sym (tied_itself nat_list_cmp_total a) ∙ (ap (order a) e ∙ p))
+
+-- how two words in order stand to a third
+pub order_rises : (a b w : List ℕ) → order a b ≡ Less → ordering_index (order a w) ≤ ordering_index (order b w)
+order_rises a b w h = go (order a w) (order b w) refl refl
   where
-    go : (a b : Bool) → ltb x y ≡ a → ltb y x ≡ b → Stand x y
-    go true b p q = less (ltb-true x y p)
-    go false true p q = more (ltb-true y x q)
-    go false false p q = alike (omega (arith, ltb-false x y p, ltb-false y x q))
+    go : (o p : Ordering) → order a w ≡ o → order b w ≡ p → ordering_index o ≤ ordering_index p
+    go Less p q r = omega arith
+    go o Greater q r = upto o
+      where
+        upto : (o : Ordering) → ordering_index o ≤ 2
+        upto Less = omega arith
+        upto Equal = omega arith
+        upto Greater = omega arith
+    go Equal Equal q r = omega arith
+    go Equal Less q r = absurd (apart (omega arith) (sym (order_trans a b w h r) ∙ q))
+    go Greater Less q r = absurd (apart (omega arith) (sym (order_trans a b w h r) ∙ q))
+    go Greater Equal q r = absurd (apart (omega arith) (sym h ∙ (alike_right nat_list_cmp_total b w a r ∙ q)))
 
--- the order of two words that are not empty, in each of the three
-module _ (x y : ℕ) (xs ys : List ℕ) where
-  order_less : x < y → order (x ∷ xs) (y ∷ ys) ≡ Before
-  unfolding order
-  order_less h = simp (lt-ltb x y h)
+-- the loop's turn k: its two bytes, and the rest
+turn : (k : ℕ) (a b : List ℕ) → k < length a → k < length b
+    → order (drop k a) (drop k (lowered b)) ≡ ordering_then (nat_cmp (get_or a k 0) (lower_of (get_or b k 0))) (order (drop (suc k) a) (drop (suc k) (lowered b)))
+turn zero (x ∷ a) (y ∷ b) h g = refl
+turn (suc k) (x ∷ a) (y ∷ b) h g = turn k a b (omega arith) (omega arith)
+turn k [] b h g = absurd (omega arith)
+turn k (x ∷ a) [] h g = absurd (omega arith)
 
-  order_more : y < x → order (x ∷ xs) (y ∷ ys) ≡ After
-  unfolding order
-  order_more h = simp (le-ltb x y (omega arith), lt-ltb y x h)
+then_told : (o p : Ordering) → is_ne o ≡ true → ordering_then o p ≡ o
+then_told Less p e = refl
+then_told Equal p e = absurd (let z : ◌≡◌ {A = ℕ} 0 1 = cc in omega arith)
+then_told Greater p e = refl
 
-  order_alike : x ≡ y → order (x ∷ xs) (y ∷ ys) ≡ order xs ys
-  unfolding order
-  order_alike h = simp (le-ltb x y (omega arith), le-ltb y x (omega arith))
+then_on : (o p : Ordering) → is_ne o ≡ false → ordering_then o p ≡ p
+then_on Less p e = absurd (let z : ◌≡◌ {A = ℕ} 0 1 = cc in omega arith)
+then_on Equal p e = refl
+then_on Greater p e = absurd (let z : ◌≡◌ {A = ℕ} 0 1 = cc in omega arith)
 
-pub order_trans : (a b c : List ℕ) → order a b ≡ Before → order b c ≡ Before → order a c ≡ Before
-unfolding order
-order_trans [] [] c p q = q
-order_trans [] (y ∷ ys) [] p q = absurd (let z : ◌≡◌ {A = ℕ} 0 1 = cc in omega arith)
-order_trans [] (y ∷ ys) (z ∷ zs) p q = refl
-order_trans (x ∷ xs) [] c p q = absurd (let z : ◌≡◌ {A = ℕ} 0 1 = cc in omega arith)
-order_trans (x ∷ xs) (y ∷ ys) [] p q = absurd (let z : ◌≡◌ {A = ℕ} 0 1 = cc in omega arith)
-order_trans (x ∷ xs) (y ∷ ys) (z ∷ zs) p q = go (stand x y) (stand y z) (order_trans xs ys zs)
-  where
-    go : Stand x y → Stand y z → (order xs ys ≡ Before → order ys zs ≡ Before → order xs zs ≡ Before) → order (x ∷ xs) (z ∷ zs) ≡ Before
-    go (less h) (less k) ih = order_less x z xs zs (omega arith)
-    go (less h) (alike k) ih = order_less x z xs zs (omega arith)
-    go (alike h) (less k) ih = order_less x z xs zs (omega arith)
-    go (alike h) (alike k) ih =
-        let e : order xs ys ≡ Before = cc (order_alike x y xs ys h) in
-        let f : order ys zs ≡ Before = cc (order_alike y z ys zs k) in
-        cc (order_alike x z xs zs (cc), ih e f)
-    go (more h) k ih = absurd (let z : ◌≡◌ {A = ℕ} 0 1 = cc (order_more x y xs ys h) in omega arith)
-    go (less h) (more k) ih = absurd (let z : ◌≡◌ {A = ℕ} 0 1 = cc (order_more y z ys zs k) in omega arith)
-    go (alike h) (more k) ih = absurd (let z : ◌≡◌ {A = ℕ} 0 1 = cc (order_more y z ys zs k) in omega arith)
+-- o is how the two bytes stand
+module _ (k : ℕ) (a b : List ℕ) (h : k < length a) (g : k < length b) (o : Ordering) (e : o ≡ nat_cmp (get_or a k 0) (lower_of (get_or b k 0)))
+    (v : order (drop k a) (drop k (lowered b)) ≡ order a (lowered b)) where
+  turned : ordering_then o (order (drop (suc k) a) (drop (suc k) (lowered b))) ≡ order a (lowered b)
+  turned = rw e (sym (turn k a b h g) ∙ v)
 
--- the two sides changed about
-pub order_flip : (a b : List ℕ) → order a b ≡ After → order b a ≡ Before
-unfolding order
-order_flip [] [] p = absurd (let z : ◌≡◌ {A = ℕ} 0 1 = cc in omega arith)
-order_flip [] (y ∷ ys) p = absurd (let z : ◌≡◌ {A = ℕ} 0 1 = cc in omega arith)
-order_flip (x ∷ xs) [] p = refl
-order_flip (x ∷ xs) (y ∷ ys) p = go (stand x y) (order_flip xs ys)
-  where
-    go : Stand x y → (order xs ys ≡ After → order ys xs ≡ Before) → order (y ∷ ys) (x ∷ xs) ≡ Before
-    go (less h) ih = absurd (let z : ◌≡◌ {A = ℕ} 0 1 = cc (order_less x y xs ys h) in omega arith)
-    go (alike h) ih =
-        let e : order xs ys ≡ After = cc (order_alike x y xs ys h) in
-        cc (order_alike y x ys xs (cc), ih e)
-    go (more h) ih = order_less y x ys xs h
+  pub turn_told : is_ne o ≡ true → o ≡ order a (lowered b)
+  turn_told t = sym (then_told o (order (drop (suc k) a) (drop (suc k) (lowered b))) t) ∙ turned
 
--- a word stands to itself as the same, and to no other
-order_self : (a : List ℕ) → order a a ≡ Same
-unfolding order
-order_self [] = refl
-order_self (x ∷ xs) = cc (order_alike x x xs xs refl, order_self xs)
+  pub turn_on : is_ne o ≡ false → order (drop (suc k) a) (drop (suc k) (lowered b)) ≡ order a (lowered b)
+  turn_on t = sym (then_on o (order (drop (suc k) a) (drop (suc k) (lowered b))) t) ∙ turned
 
-pub order_same : (a b : List ℕ) → order a b ≡ Same → a ≡ b
-unfolding order
-order_same [] [] p = refl
-order_same [] (y ∷ ys) p = absurd (let z : ◌≡◌ {A = ℕ} 0 1 = cc in omega arith)
-order_same (x ∷ xs) [] p = absurd (let z : ◌≡◌ {A = ℕ} 0 1 = cc in omega arith)
-order_same (x ∷ xs) (y ∷ ys) p = go (stand x y) (order_same xs ys)
-  where
-    go : Stand x y → (order xs ys ≡ Same → xs ≡ ys) → x ∷ xs ≡ y ∷ ys
-    go (less h) ih = absurd (let z : ◌≡◌ {A = ℕ} 0 1 = cc (order_less x y xs ys h) in omega arith)
-    go (alike h) ih =
-        let e : order xs ys ≡ Same = cc (order_alike x y xs ys h) in
-        cc (ih e)
-    go (more h) ih = absurd (let z : ◌≡◌ {A = ℕ} 0 1 = cc (order_more x y xs ys h) in omega arith)
-
-module _ (a b : List ℕ) where
-  pub before_other : order a b ≡ Before → a ≡ b → ⊥
-  before_other p e = let z : ◌≡◌ {A = ℕ} 0 1 = cc (order_self a) in omega arith
-
-  pub after_other : order a b ≡ After → a ≡ b → ⊥
-  after_other p e = let z : ◌≡◌ {A = ℕ} 0 1 = cc (order_self a) in omega arith
-
-drop_lowered : (w : List ℕ) (k : ℕ) → k < length w → drop k (lowered w) ≡ lower_of (get_or w k 0) ∷ drop (suc k) (lowered w)
-drop_lowered [] k h = absurd (omega arith)
-drop_lowered (x ∷ xs) zero h = refl
-drop_lowered (x ∷ xs) (suc k) h = drop_lowered xs k (omega arith)
-
--- the invariant of the loop: the k bytes passed are alike, so that the rest decides
-pub record Comparing (a w : List ℕ) (k : ℕ) : Type 0 where
-  pub still : order (drop k a) (drop k (lowered w)) ≡ order a (lowered w)
-
-pub compare_start : (a w : List ℕ) → Comparing a w 0
-compare_start a w = record { still = refl }
-
-module _ {a w : List ℕ} {k : ℕ} (v : Comparing a w k) where
-  pub compare_same : length a ≤ k → length w ≤ k → Same ≡ order a (lowered w)
-  unfolding order
-  compare_same p q = simp (drop_of_length-le a p, drop_of_length-le (lowered w) {i = k} (simp length-map q)) at v.still
-
-  pub compare_shorter : length a ≤ k → k < length w → Before ≡ order a (lowered w)
-  unfolding order
-  compare_shorter p q = simp (drop_of_length-le a p, drop_lowered w k q) at v.still
-
-  module _ (h : k < length a) where
-    pub compare_longer : length w ≤ k → After ≡ order a (lowered w)
-    unfolding order
-    compare_longer q = simp (drop-cons a k 0 h, drop_of_length-le (lowered w) {i = k} (simp length-map q)) at v.still
-
-    module _ (l : k < length w) {b : ℕ} (q : b ≡ lower_of (get_or w k 0)) where
-      step : order (get_or a k 0 ∷ drop (suc k) a) (b ∷ drop (suc k) (lowered w)) ≡ order a (lowered w)
-      step = simp (drop-cons a k 0 h, drop_lowered w k l, ← q) at v.still
-
-      pub compare_before : get_or a k 0 < b → Before ≡ order a (lowered w)
-      compare_before p = cc (step, order_less (get_or a k 0) b (drop (suc k) a) (drop (suc k) (lowered w)) p)
-
-      pub compare_after : b < get_or a k 0 → After ≡ order a (lowered w)
-      compare_after p = cc (step, order_more (get_or a k 0) b (drop (suc k) a) (drop (suc k) (lowered w)) p)
-
-      pub compare_go : b ≤ get_or a k 0 → get_or a k 0 ≤ b → Comparing a w (k + 1)
-      compare_go p r =
-          let e : k + 1 ≡ suc k = omega arith in
-          record { still = rw e (cc (step, order_alike (get_or a k 0) b (drop (suc k) a) (drop (suc k) (lowered w)) (omega arith))) }
-
-pub ruleset compared = (compare_start, compare_same, compare_shorter, compare_longer, compare_before, compare_after, compare_go)
+-- one of the two is at its end: the lengths tell
+pub lengths_tell : (k : ℕ) (a b : List ℕ) → k ≡ min (length a) (length b) → order (drop k a) (drop k (lowered b)) ≡ nat_cmp (length a) (length b)
+lengths_tell zero [] [] e = refl
+lengths_tell zero [] (y ∷ b) e = grind (arith, nat_tests)
+lengths_tell zero (x ∷ a) [] e = grind (arith, nat_tests)
+lengths_tell zero (x ∷ a) (y ∷ b) e = absurd (omega (arith, e))
+lengths_tell (suc k) [] b e = absurd (omega (arith, e))
+lengths_tell (suc k) (x ∷ a) [] e = absurd (omega (arith, e))
+lengths_tell (suc k) (x ∷ a) (y ∷ b) e = lengths_tell k a b (omega (arith, e)) ∙ grind (arith, nat_tests)

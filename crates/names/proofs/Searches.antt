@@ -1,75 +1,68 @@
--- The binary search: the laws of its turns and its ends.
-use Prim.Native.Nat.{ℕ, ◌+◌, ◌-◌, ◌/◌, ◌≤◌, ◌<◌}
-use mathlib.Core.List.{List, []}
-use mathlib.Core.Path.{◌≡◌, sym, ◌∙◌}
+-- What the binary search finds in the code's table.
+use Rattle.std.proofs.Common.{ℕ, ◌≡◌, ◌≤◌, ◌<◌, List, [], length, get_or, map, Ok, Err, Bool, true, false, Some, None, sym, ap, ◌∙◌, arith}
+use Rattle.std.specs.Ordering.{ordering_index}
+use Rattle.std.specs.List.Sorted.{IsSearchInRange, IsBinarySearchResult, IsNonDecreasingBy}
+use Rattle.std.specs.declared.cmp.Ordering.{Ordering}
+use Rattle.std.proofs.lemmas.List.{get_or-map}
+use lib.ListN.{length-map}
 use mathlib.Core.Logic.{⊎_elim}
-use native.Mathlib.Nat.{eq-or-lt_of_le, div-mul-le_self}
-use native.Mathlib.Omega.{arith}
-use Rattle.text_bytes.specs.Words.{lowered}
+use native.Mathlib.Nat.{eq-or-lt_of_le}
+use Rattle.text_bytes.specs.Words.{lowered, same, ascii}
 use Rattle.text_bytes.proofs.Ranges.{le_or_lt}
+use Rattle.names.specs.Keywords.{keywords, entry}
 use Rattle.names.specs.Look.{channels, look_up, named_of}
-use Rattle.names.specs.Search.{nth, order, Narrowed}
-use Rattle.names.specs.declared.Rgb.{Rgb}
-use Rattle.names.specs.declared.Named.{Named}
+use Rattle.names.specs.Order.{order}
+use Rattle.names.specs.Search.{nth, Entry, entry_of}
 use Rattle.names.specs.declared.Named.TheVariants as N
-use Rattle.names.specs.declared.Order.{Order}
-use Rattle.names.specs.declared.Order.TheVariants.{Before, Same, After}
-use Rattle.names.proofs.Orders.{order_trans, order_flip, order_same, before_other, after_other}
-use Rattle.names.proofs.Tables.{table_order}
+use Rattle.names.proofs.Orders.{order_same, order_rises, before_other, after_other}
+use Rattle.names.proofs.Tables.{table_count, table_order}
 use Rattle.names.proofs.Naming.{named_keyword, named_unlisted}
 
--- the search begins with all entries
-pub narrow_start : (w : List ℕ) → Narrowed w 0 147
-narrow_start w = record { below = λ j l e. absurd (omega arith); above = λ j l k e. absurd (omega arith); upto = omega arith }
+-- how an entry stands to a word
+abbrev pub standing : List ℕ → Entry → Ordering
+standing w e = order e.0.now w
 
--- the turns of the search, at an entry m
-module _ {w : List ℕ} {lo hi : ℕ} (v : Narrowed w lo hi) (m : ℕ) (h : m < hi) where
-  cut_low : order (nth m).name w ≡ Before → Narrowed w (m + 1) hi
-  cut_low e =
-      record {
-        below = λ j l.
-            ⊎_elim (λ (p : j ≡ m). before_other (nth j).name w (cc))
-            (λ (p : j < m). before_other (nth j).name w (order_trans (nth j).name (nth m).name w (table_order j m p (omega (arith, v.upto))) e))
-            (eq-or-lt_of_le {n = j} {m = m} (omega arith));
-        above = v.above;
-        upto = v.upto;
-      }
+-- what a word is that is the name of no entry: b is whether it is `transparent`
+module _ (w : List ℕ) {b : Bool} (p : b ≡ same w (ascii "transparent")) where
+  pub is_transparent : b ≡ true → look_up [] w ≡ Some N.Transparent
+  unfolding look_up
+  is_transparent e = simp (sym p ∙ e)
 
-  cut_high : order (nth m).name w ≡ After → Narrowed w lo m
-  cut_high e =
-      record {
-        below = v.below;
-        above = λ j l k.
-            ⊎_elim (λ (p : m ≡ j). after_other (nth j).name w (cc))
-            (λ (p : m < j) f.
-            before_other w (nth j).name (order_trans w (nth m).name (nth j).name (order_flip (nth m).name w e) (table_order m j p k)) (sym f))
-            (eq-or-lt_of_le l);
-        upto = omega (arith, v.upto);
-      }
+  pub is_unknown : b ≡ false → look_up [] w ≡ None
+  unfolding look_up
+  is_unknown e = simp (sym p ∙ e)
 
-half_lt : (lo hi : ℕ) → lo < hi → lo + (hi - lo) / 2 < hi
-half_lt lo hi h = omega (arith, div-mul-le_self (hi - lo) 2)
+module _ (t : List Entry) (q : map entry_of t ≡ keywords) where
+  table_length : length t ≡ 147
+  table_length = sym (length-map t entry_of) ∙ (ap length q ∙ table_count)
 
-module _ {w : List ℕ} {lo hi : ℕ} (v : Narrowed w lo hi) (h : lo < hi) where
-  pub narrow_lt : lo + (hi - lo) / 2 < 147
-  narrow_lt = omega (arith, half_lt lo hi h, v.upto)
+  entry_nth : (k : ℕ) (d : Entry) → k < 147 → entry_of (get_or t k d) ≡ nth k
+  entry_nth k d h = sym (get_or-map entry_of t k d (entry "" 0 0 0) (omega (arith, table_length))) ∙ ap (λ es. get_or es k (entry "" 0 0 0)) q
 
-  -- o is how the entry in the middle stands to the word
-  module _ {o : Order} (q : o ≡ order (nth (lo + (hi - lo) / 2)).name w) where
-    pub narrow_low : o ≡ Before → Narrowed w (lo + (hi - lo) / 2 + 1) hi
-    narrow_low e = cut_low v (lo + (hi - lo) / 2) (half_lt lo hi h) (cc)
+  module _ (w : List ℕ) where
+    standing_rises : IsNonDecreasingBy (λ e. ordering_index (standing w e)) t
+    standing_rises i j d l h =
+        let a = ap (λ e. ordering_index (order e.name w)) (entry_nth i d (omega (arith, table_length))) in
+        let b = ap (λ e. ordering_index (order e.name w)) (entry_nth j d (omega (arith, table_length))) in
+        ⊎_elim (λ (p : i ≡ j). rw p (omega arith))
+        (λ (p : i < j). omega (arith, a, b, order_rises (nth i).name (nth j).name w (table_order i j p (omega (arith, table_length)))))
+        (eq-or-lt_of_le l)
 
-    pub narrow_high : o ≡ After → Narrowed w lo (lo + (hi - lo) / 2)
-    narrow_high e = cut_high v (lo + (hi - lo) / 2) (half_lt lo hi h) (cc)
+  module _ (w : List ℕ) where
+    pub found_at : (k : ℕ) (d : Entry) → IsSearchInRange (Ok k) (length t) → IsBinarySearchResult (standing (lowered w)) t (Ok k)
+        → Some (N.Keyword (channels (entry_of (get_or t k d)))) ≡ named_of w
+    found_at k d h f =
+        let e = entry_nth k d (omega (arith, table_length)) in
+        ap (λ x. Some (N.Keyword (channels x))) e
+        ∙ sym (named_keyword w k (omega (arith, table_length)) (order_same (nth k).name (lowered w) (ap (λ x. order x.name (lowered w)) (sym e) ∙ f d)))
 
-module _ (w : List ℕ) {lo hi : ℕ} (v : Narrowed (lowered w) lo hi) where
-  pub narrow_at : lo < hi → {o : Order} → o ≡ order (nth (lo + (hi - lo) / 2)).name (lowered w) → o ≡ Same
-      → (r : Rgb) → r ≡ channels (nth (lo + (hi - lo) / 2)) → N.Keyword r ≡ named_of w
-  narrow_at h q e r f = rw f (sym (named_keyword w (lo + (hi - lo) / 2) (narrow_lt v h) (order_same (nth (lo + (hi - lo) / 2)).name (lowered w) (sym q ∙ e))))
-
-  pub narrow_none : hi ≤ lo → {n : Named} → n ≡ look_up [] (lowered w) → n ≡ named_of w
-  narrow_none h q =
-      q ∙ sym (named_unlisted w
-      (λ j l. ⊎_elim (λ (p : hi ≤ j). v.above j p l) (λ (p : j < hi). v.below j (omega arith)) (le_or_lt hi j)))
-
-pub ruleset narrowed = (narrow_start, narrow_lt, narrow_low, narrow_high, narrow_at, narrow_none)
+    pub found_none : (k : ℕ) → IsBinarySearchResult (standing (lowered w)) t (Err k) → named_of w ≡ look_up [] (lowered w)
+    found_none k f =
+        let d : Entry = (record { ref_ptr = (0, 0); now = [] }, 0, 0, 0) in
+        let s = f (standing_rises (lowered w)) in
+        named_unlisted w (λ j h.
+        let e = ap (λ x. order x.name (lowered w)) (sym (entry_nth j d h)) in
+        ⊎_elim
+        (λ (p : k ≤ j). after_other (nth j).name (lowered w) (e ∙ s.1 j d p (omega (arith, table_length))))
+        (λ (p : j < k). before_other (nth j).name (lowered w) (e ∙ s.0 j d (omega arith) p))
+        (le_or_lt k j))

@@ -9,10 +9,11 @@ use lib.ListN.{length, get_or}
 use Rattle.text_bytes.specs.Bytes.{is_lower, within}
 use Rattle.text_bytes.proofs.Ranges.{across}
 use Rattle.names.specs.Keywords.{keywords}
-use Rattle.names.specs.Order.{is_before}
-use Rattle.names.specs.Search.{nth, order}
-use Rattle.names.specs.declared.Order.{Order}
-use Rattle.names.specs.declared.Order.TheVariants.{Before, Same, After}
+use Rattle.std.specs.Ordering.{is_lt}
+use Rattle.std.specs.declared.cmp.Ordering.{Ordering}
+use Rattle.std.specs.declared.cmp.Ordering.TheVariants.{Less, Equal, Greater}
+use Rattle.names.specs.Order.{order}
+use Rattle.names.specs.Search.{nth}
 use Rattle.names.proofs.Orders.{order_trans}
 
 pub holds_true : (b : Bool) → T b → true ≡ b
@@ -23,24 +24,24 @@ pub table_count : length keywords ≡ 147
 unfolding keywords
 table_count = refl
 
-is_before_of : (o : Order) → T (is_before o) → o ≡ Before
-is_before_of Before t = refl
-is_before_of Same t = absurd t
-is_before_of After t = absurd t
+is_less : (o : Ordering) → T (is_lt o) → o ≡ Less
+is_less Less t = refl
+is_less Equal t = absurd t
+is_less Greater t = absurd t
 
 -- the names stand in strictly rising order
-pub table_rises : (k : ℕ) → k + 1 < 147 → order (nth k).name (nth (k + 1)).name ≡ Before
-unfolding keywords order
-table_rises k h = is_before_of _ (across (λ j. is_before (order (nth j).name (nth (j + 1)).name)) 0 146 tt k (omega arith) (omega arith))
+pub table_rises : (k : ℕ) → k + 1 < 147 → order (nth k).name (nth (k + 1)).name ≡ Less
+unfolding keywords
+table_rises k h = is_less _ (across (λ j. is_lt (order (nth j).name (nth (j + 1)).name)) 0 146 tt k (omega arith) (omega arith))
 
 -- any two of them, and not only neighbours
-apart : (d i : ℕ) → i + suc d < 147 → order (nth i).name (nth (i + suc d)).name ≡ Before
+apart : (d i : ℕ) → i + suc d < 147 → order (nth i).name (nth (i + suc d)).name ≡ Less
 apart zero i h = table_rises i h
 apart (suc d) i h =
     let e : i + suc (suc d) ≡ i + suc d + 1 = omega arith in
     rw e (order_trans (nth i).name (nth (i + suc d)).name (nth (i + suc d + 1)).name (apart d i (omega arith)) (table_rises (i + suc d) (omega arith)))
 
-pub table_order : (i j : ℕ) → i < j → j < 147 → order (nth i).name (nth j).name ≡ Before
+pub table_order : (i j : ℕ) → i < j → j < 147 → order (nth i).name (nth j).name ≡ Less
 table_order i j p q =
     let e : j ≡ i + suc (j - (i + 1)) = omega arith in
     rw e (apart (j - (i + 1)) i (omega arith))

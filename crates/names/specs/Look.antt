@@ -1,5 +1,5 @@
 -- The colour that a word names.
-use Rattle.std.specs.Prelude.{ℕ, cond, List, [], ◌∷◌}
+use Rattle.std.specs.Prelude.{ℕ, if◌then◌else◌, List, [], ◌∷◌, Option, Some, None}
 use Rattle.text_bytes.specs.Words.{ascii, same, lowered}
 use Rattle.names.specs.Keywords.{Keyword, keywords}
 use Rattle.names.specs.declared.Rgb.{Rgb}
@@ -11,10 +11,10 @@ abbrev pub channels : Keyword → Rgb
 channels e = record { red = e.red; green = e.green; blue = e.blue }
 
 -- the first entry whose name is w; `transparent` stands in no entry of the standard, and is read all the same
-unfoldable pub look_up : List Keyword → List ℕ → Named
-look_up [] w = cond (same w (ascii "transparent")) N.Transparent N.Unknown
-look_up (e ∷ es) w = cond (same w e.name) (N.Keyword (channels e)) (look_up es w)
+unfoldable pub look_up : List Keyword → List ℕ → Option Named
+look_up [] w = if same w (ascii "transparent") then Some N.Transparent else None
+look_up (e ∷ es) w = if same w e.name then Some (N.Keyword (channels e)) else look_up es w
 
 -- letter case ignored
-unfoldable pub named_of : List ℕ → Named
+unfoldable pub named_of : List ℕ → Option Named
 named_of w = look_up keywords (lowered w)

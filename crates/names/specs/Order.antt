@@ -1,14 +1,13 @@
 -- The alphabet.
-use Rattle.std.specs.Prelude.{ℕ, Bool, true, false, List}
-use Rattle.names.specs.Search.{order}
-use Rattle.names.specs.declared.Order.{Order}
-use Rattle.names.specs.declared.Order.TheVariants.{Before, Same, After}
+use Rattle.std.specs.Prelude.{ℕ, Bool, List}
+use Rattle.std.specs.Ordering.{nat_cmp, is_lt}
+use Rattle.std.specs.declared.cmp.Ordering.{Ordering}
+use Rattle.std.specs.Cmp.Lexicographic.{slice_cmp}
 
-abbrev pub is_before : Order → Bool
-is_before Before = true
-is_before Same = false
-is_before After = false
+-- how two words stand, byte by byte
+abbrev pub order : List ℕ → List ℕ → Ordering
+order = slice_cmp nat_cmp
 
--- a word stands before another, byte by byte
+-- a word stands before another
 unfoldable pub before : List ℕ → List ℕ → Bool
-before a b = is_before (order a b)
+before a b = is_lt (order a b)

@@ -10,7 +10,7 @@ use lib.Ieee.{Float, nan, inf, fin, binary64, neg, of_int, up, down}
 use lib.Ieee.Exact.{HasValue}
 use Rattle.floats.proofs.Bounds.{Within, AtLeastOne, wider, neg_within, int_within, mul_within, div_within}
 use Rattle.numbers.specs.Digits.{cap}
-use Rattle.numbers.specs.Number.{magnitude, value_of}
+use Rattle.numbers.specs.Number.{magnitude, signed, value_of}
 use Rattle.numbers.specs.Powers.{power_of}
 use Rattle.numbers.proofs.Exact.{power_exact}
 
@@ -33,7 +33,7 @@ power_within k h =
     whole_within (power_of k) (10 ^ k) 74 (power_exact k h) (le_trans (pow-le-pow_right {n = 10} (lit≤ tt) {i = k} {j = 22} (omega arith)) (lit≤ tt))
 
 pub value_within : (minus : Bool) (m : ℕ) (down : Bool) (by : ℕ) → m < cap → by < 23 → Within 127 (value_of minus m down by)
-unfolding value_of
+unfolding value_of signed
 value_within minus m down by h l = sign minus (magnitude m down by) (size down)
   where
     int : Within 53 (of_int binary64 (pos m))

@@ -5,7 +5,6 @@ pub mod Exact
 pub mod Bounds
 pub mod Values
 pub mod Wholes
-pub mod Stretches
 pub mod Sames
 pub mod Nearest
 pub mod Worked

@@ -16,17 +16,19 @@ use lib.Ieee.Fits.{down_pos}
 use lib.Ieee.Scale.{round_same, finite}
 use Rattle.text_bytes.specs.Bytes.{is_space}
 use Rattle.text_bytes.specs.Scan.{scan}
-use Rattle.text_bytes.specs.declared.Place.{Place}
 use Rattle.text_bytes.proofs.Ranges.{either}
 use Rattle.floats.proofs.Bounds.{is_finite}
 use Rattle.numbers.specs.Decimal.{decimal, written, nearest}
 use Rattle.numbers.specs.Digits.{cap}
-use Rattle.numbers.specs.Number.{magnitude, value_of, scale_of, parse_number, parse_number_or_percent, parse_list_number, parse_list_number_or_percent}
+use Rattle.numbers.specs.Number.{magnitude, signed, value_of, scale_of, parse_number, parse_number_or_percent, parse_list_number, parse_list_number_or_percent}
 use Rattle.numbers.specs.Powers.{power_of}
-use Rattle.numbers.specs.declared.Number.{Number}
-use Rattle.numbers.specs.declared.NumberRead.TheVariants as N
 use Rattle.numbers.proofs.Exact.{power_exact}
-use Rattle.numbers.proofs.Values.{values_known, number_values, mantissa_of, exponent_of, number_known, percent_known, list_number_known, list_percent_known}
+use Rattle.std.specs.Prelude.{Ok}
+use Rattle.stream.specs.declared.Read.{Read}
+use Rattle.stream.proofs.Binds.{at_ok}
+use Rattle.stream.proofs.Stretches.{LiesFrom}
+use Rattle.numbers.specs.Moves.{Number}
+use Rattle.numbers.proofs.Values.{number_holds, mantissa_of, exponent_of, number_known, percent_known, list_number_known, list_percent_known}
 
 -- an operation on exact operands rounds the exact result
 mul_rounds : (f : Format) (x y : Float) (a c b d : ℕ) → 0 < c * d → HasValue x false a c → HasValue y false b d → mul f x y ≡ round f false (a * b) (c * d)
@@ -91,7 +93,7 @@ int_exact m h = round_exact binary64 false m 1 m (low binary64) (lit< tt) h (bel
 
 -- THEOREM. M, moved by at most 22 places: the one rounded operation gives the double nearest to it, and a minus sign the nearest to its negative.
 pub value_nearest : (minus : Bool) (m : ℕ) (down : Bool) (by : ℕ) → m < cap → by < 23 → value_of minus m down by ≡ nearest (decimal minus m down by)
-unfolding value_of nearest
+unfolding value_of signed nearest
 value_nearest minus m down by h l = sign minus down
   where
     x : HasValue (of_int binary64 (pos m)) false m 1
@@ -133,30 +135,30 @@ scale_exact minus m false e f =
     (rw (mul-one (10 ^ f)) (ap (λ (x : ℕ). m * x) (sym p) ∙ sym (mul_assoc m (10 ^ e) (10 ^ (f - e)))))))
 
 -- THEOREM. What is read is the double nearest to the decimal that is written.
-pub number_nearest : (s : List ℕ) (i : ℕ) (n : Number) (p : Place) → parse_number s i ≡ N.Value n p → n.value ≡ nearest (written s (scan is_space s i))
+pub number_nearest : (s : List ℕ) (i : ℕ) (r : Read Number) → parse_number s i ≡ Ok r → r.value.value ≡ nearest (written s (scan is_space s i))
 unfolding written
-number_nearest s i n p e =
+number_nearest s i r e =
     let start = scan is_space s i in
     let m = mantissa_of s i in
     let x = exponent_of s i in
     let sc = scale_of x.minus x.value m.fraction in
-    values_known (λ v q. v.value ≡ nearest (written s start)) (parse_number s i) n p
-    (number_values s i (λ v q. v.value ≡ nearest (written s start))
+    at_ok (λ v. v.value.value ≡ nearest (written s start)) (LiesFrom s i) (parse_number s i) r
+    (number_holds s i (λ v. v.value.value ≡ nearest (written s start))
     (λ l j.
     value_nearest (eqb (get_or s start 0) 45) m.value sc.down sc.by j.small (omega (arith, j.near))
     ∙ scale_exact (eqb (get_or s start 0) 45) m.value x.minus x.value m.fraction))
     e
 
 -- THEOREM. Whatever is read is finite.
-module _ (s : List ℕ) (i : ℕ) (n : Number) (p : Place) where
-  pub number_finite : parse_number s i ≡ N.Value n p → T (finite n.value)
-  number_finite e = is_finite 127 n.value (number_known s i n p e).within
+module _ (s : List ℕ) (i : ℕ) (r : Read Number) where
+  pub number_finite : parse_number s i ≡ Ok r → T (finite r.value.value)
+  number_finite e = is_finite 127 r.value.value (number_known s i r e).within
 
-  pub percent_finite : parse_number_or_percent s i ≡ N.Value n p → T (finite n.value)
-  percent_finite e = is_finite 127 n.value (percent_known s i n p e).within
+  pub percent_finite : parse_number_or_percent s i ≡ Ok r → T (finite r.value.value)
+  percent_finite e = is_finite 127 r.value.value (percent_known s i r e).within
 
-  pub list_number_finite : parse_list_number s i ≡ N.Value n p → T (finite n.value)
-  list_number_finite e = is_finite 127 n.value (list_number_known s i n p e).within
+  pub list_number_finite : parse_list_number s i ≡ Ok r → T (finite r.value.value)
+  list_number_finite e = is_finite 127 r.value.value (list_number_known s i r e).within
 
-  pub list_percent_finite : parse_list_number_or_percent s i ≡ N.Value n p → T (finite n.value)
-  list_percent_finite e = is_finite 127 n.value (list_percent_known s i n p e).within
+  pub list_percent_finite : parse_list_number_or_percent s i ≡ Ok r → T (finite r.value.value)
+  list_percent_finite e = is_finite 127 r.value.value (list_percent_known s i r e).within

@@ -6,19 +6,15 @@ use mathlib.Core.Path.{◌≡◌, refl}
 use borrow.Author.Tests.{lt-leb}
 use lib.Dec.{leb}
 use lib.ListN.{length, get_or, drop}
-use Rattle.text_bytes.specs.Flow.{bind}
-use Rattle.stream.specs.declared.Fault.{Fault}
-use Rattle.text_bytes.specs.declared.Place.{Place}
 use Rattle.text_bytes.proofs.Ahead.{Ahead, ahead_inside, Stop, here, there, ahead_stop, drop_more, ahead_pass, ahead_scan, ahead_byte, get_or_more, scan_more, end_more, digit_stop}
 use Rattle.text_bytes.proofs.Ranges.{either}
-use Rattle.stream.proofs.Sames.{sames, separator_more}
+use Rattle.stream.proofs.Sames.{curr_more, separator_more}
+use Rattle.stream.proofs.Binds.{bind_same}
+use Rattle.stream.proofs.Goes.{past_ahead}
+use Rattle.stream.proofs.Stretches.{LiesFrom}
 use Rattle.numbers.specs.Digits.{value}
-use Rattle.numbers.specs.Moves.{then_number}
 use Rattle.numbers.specs.Number.{after_sign, mantissa_at, mantissa_dot, exponent_at, exponent_from, number_from, parse_number, parse_number_or_percent, after_item, parse_list_number, parse_list_number_or_percent}
-use Rattle.numbers.specs.declared.Number.{Number}
-use Rattle.numbers.specs.declared.NumberRead.{NumberRead}
-use Rattle.numbers.specs.declared.NumberRead.TheVariants as N
-use Rattle.numbers.proofs.Values.{all_values, Taken, taken_ahead, is_e, is_dot, sign_goes, mantissa_goes, number_taken, percent_taken, list_number_taken, list_percent_taken}
+use Rattle.numbers.proofs.Values.{Taken, is_e, is_dot, sign_goes, mantissa_goes, number_taken, percent_taken}
 
 value_run : (acc : ℕ) {l : List ℕ} → Stop l → (b : List ℕ) → value acc (l ++ b) ≡ value acc l
 unfolding value
@@ -33,12 +29,6 @@ sign_ahead {a} i h = ahead_pass h (sign_goes a i).passes
 
 mantissa_ahead : {a : List ℕ} (i : ℕ) → Ahead a i → Ahead a (mantissa_at a i).end.0
 mantissa_ahead {a} i h = ahead_pass h (mantissa_goes a i).passes
-
--- going on alike with what is read alike
-same_read : {B : Type 0} (a : List ℕ) (j : ℕ) → Ahead a j → (out : Fault → B) (k k' : Number → Place → B) → ((n : Number) (p : Place) → Ahead a p.0 → k' n p ≡ k n p)
-    → (x : NumberRead) → all_values (Taken a j) x → then_number out x k' ≡ then_number out x k
-same_read a j h out k k' f (N.Value n p) t = f n p (taken_ahead t h)
-same_read a j h out k k' f (N.Refused e) t = refl
 
 module _ (a b : List ℕ) where
   sign_more : (i : ℕ) → Ahead a i → after_sign (a ++ b) i ≡ after_sign a i
@@ -71,44 +61,31 @@ module _ (a b : List ℕ) where
       (λ e. simp (get_or_more, e))
 
   pub number_more : (i : ℕ) → Ahead a i → parse_number (a ++ b) i ≡ parse_number a i
-  unfolding parse_number number_from bind
+  unfolding parse_number number_from
   number_more i h = simp (scan_more, end_more, get_or_more, sign_more, mantissa_more, exponent_more, ahead_scan, sign_ahead, mantissa_ahead)
 
-module _ {B : Type 0} (a b : List ℕ) (j : ℕ) (h : Ahead a j) (out : Fault → B) (k k' : Number → Place → B) (f : (n : Number) (p : Place) → Ahead a p.0 → k' n p ≡ k n p) where
-  pub same_number : then_number out (parse_number (a ++ b) j) k' ≡ then_number out (parse_number a j) k
-  same_number = rw (number_more a b j h) (same_read a j h out k k' f (parse_number a j) (number_taken a j))
-
-module _ (a b : List ℕ) where
   pub percent_more : (i : ℕ) → Ahead a i → parse_number_or_percent (a ++ b) i ≡ parse_number_or_percent a i
   unfolding parse_number_or_percent
-  percent_more i h = search (sames, same_number) depth 16
+  percent_more i h =
+      bind_same (Taken a i) (LiesFrom a i) (parse_number a i) (parse_number (a ++ b) i) _ _ (number_more i h) (number_taken a i)
+      (λ r t. let k : Ahead a r.next.0 = past_ahead t.past h in simp curr_more)
 
   -- after what is read alike, spaces and a comma are passed alike
-  item_more : (i : ℕ) → Ahead a i → (x : NumberRead) → all_values (Taken a i) x → after_item (a ++ b) x ≡ after_item a x
-  unfolding after_item bind
-  item_more i h (N.Value n p) t = let k : Ahead a p.0 = taken_ahead t h in simp (scan_more, separator_more, ahead_scan)
-  item_more i h (N.Refused e) t = refl
+  pub item_more : (i : ℕ) → Ahead a i → after_item (a ++ b) i ≡ after_item a i
+  item_more i h = simp (scan_more, separator_more, ahead_scan)
 
   pub list_number_more : (i : ℕ) → Ahead a i → parse_list_number (a ++ b) i ≡ parse_list_number a i
-  unfolding parse_list_number bind
+  unfolding parse_list_number
   list_number_more i h =
       let l : leb (length a) i ≡ false = lt-leb (length a) i (ahead_inside h) in
-      simp (end_more, l, number_more, item_more i h (parse_number a i) (number_taken a i))
+      simp (end_more, l)
+      (bind_same (Taken a i) (LiesFrom a i) (parse_number a i) (parse_number (a ++ b) i) _ _ (number_more i h) (number_taken a i)
+      (λ r t. rw (item_more r.next.0 (past_ahead t.past h)) refl))
 
   pub list_percent_more : (i : ℕ) → Ahead a i → parse_list_number_or_percent (a ++ b) i ≡ parse_list_number_or_percent a i
-  unfolding parse_list_number_or_percent bind
+  unfolding parse_list_number_or_percent
   list_percent_more i h =
       let l : leb (length a) i ≡ false = lt-leb (length a) i (ahead_inside h) in
-      simp (end_more, l, percent_more, item_more i h (parse_number_or_percent a i) (percent_taken a i))
-
-module _ {B : Type 0} (a b : List ℕ) (j : ℕ) (h : Ahead a j) (out : Fault → B) (k k' : Number → Place → B) (f : (n : Number) (p : Place) → Ahead a p.0 → k' n p ≡ k n p) where
-  pub same_percent : then_number out (parse_number_or_percent (a ++ b) j) k' ≡ then_number out (parse_number_or_percent a j) k
-  same_percent = rw (percent_more a b j h) (same_read a j h out k k' f (parse_number_or_percent a j) (percent_taken a j))
-
-  pub same_list_number : then_number out (parse_list_number (a ++ b) j) k' ≡ then_number out (parse_list_number a j) k
-  same_list_number = rw (list_number_more a b j h) (same_read a j h out k k' f (parse_list_number a j) (list_number_taken a j))
-
-  pub same_list_percent : then_number out (parse_list_number_or_percent (a ++ b) j) k' ≡ then_number out (parse_list_number_or_percent a j) k
-  same_list_percent = rw (list_percent_more a b j h) (same_read a j h out k k' f (parse_list_number_or_percent a j) (list_percent_taken a j))
-
-pub ruleset same_numbers = (same_number, same_percent, same_list_number, same_list_percent)
+      simp (end_more, l)
+      (bind_same (Taken a i) (LiesFrom a i) (parse_number_or_percent a i) (parse_number_or_percent (a ++ b) i) _ _ (percent_more i h) (percent_taken a i)
+      (λ r t. rw (item_more r.next.0 (past_ahead t.past h)) refl))

@@ -3,25 +3,19 @@ use Prim.Native.Nat.{ℕ, ◌+◌}
 use mathlib.Core.Bool.{Bool, true, false, cond, ◌||◌}
 use mathlib.Core.List.{List, ◌++◌}
 use mathlib.Core.Path.{◌≡◌, refl}
-use lib.Dec.{eqb}
+use lib.Dec.{eqb, leb}
 use lib.ListN.{length, get_or}
 use Rattle.text_bytes.specs.Bytes.{is_digit}
-use Rattle.text_bytes.specs.Flow.{bind}
 use Rattle.text_bytes.specs.Moves.{move_place}
-use Rattle.stream.specs.Moves.{move_fault}
+use Rattle.stream.specs.Moves.{moved, move_read}
+use Rattle.stream.proofs.Binds.{bind_moved}
+use native.Mathlib.Nat.{add_assoc}
 use Rattle.text_bytes.specs.Scan.{scan}
-use Rattle.stream.specs.declared.Fault.{Fault}
-use Rattle.text_bytes.specs.declared.Place.{Place}
 use Rattle.text_bytes.proofs.Scans.{scan_shift}
-use Rattle.text_bytes.proofs.Shifts.{shifts, cond_push, curr_shift}
+use Rattle.text_bytes.proofs.Shifts.{shifts, cond_push, same_else, curr_shift}
 use Rattle.stream.proofs.Shifts.{separator_shift}
-use Rattle.numbers.specs.Moves.{move_number, move_number_read, then_number}
-use Rattle.numbers.specs.Number.{after_sign, mantissa_at, mantissa_dot, exponent_at, exponent_from, finished, scaled, number_from, parse_number, parse_number_or_percent, after_item, parse_list_number, parse_list_number_or_percent}
-use Rattle.numbers.specs.declared.Exponent.{Exponent}
-use Rattle.numbers.specs.declared.Mantissa.{Mantissa}
-use Rattle.numbers.specs.declared.Number.{Number}
-use Rattle.numbers.specs.declared.NumberRead.{NumberRead}
-use Rattle.numbers.specs.declared.NumberRead.TheVariants as N
+use Rattle.numbers.specs.Moves.{Number, move_written}
+use Rattle.numbers.specs.Number.{Mantissa, Exponent, after_sign, mantissa_at, mantissa_dot, exponent_at, exponent_from, finished, scaled, number_from, parse_number, parse_number_or_percent, after_item, parse_list_number, parse_list_number_or_percent}
 
 abbrev move_mantissa : ℕ → Mantissa → Mantissa
 move_mantissa k m = record { ok = m.ok; value = m.value; fraction = m.fraction; dotted = m.dotted; end = move_place k m.end }
@@ -37,16 +31,6 @@ cond_pull f false x y = refl
 cond_pulls : {A B : Type 0} (f : A → B) (t u : Bool) (x y z : A) → cond t (cond u (f x) (f y)) (f z) ≡ f (cond t (cond u x y) z)
 cond_pulls f true u x y z = cond_pull f u x y
 cond_pulls f false u x y z = refl
-
-pub number_move : {B : Type 0} (n : ℕ) (out : Fault → B) (x : NumberRead) (k : Number → Place → B)
-    → then_number out (move_number_read n x) k ≡ then_number (λ e. out (move_fault n e)) x (λ v p. k (move_number n v) (move_place n p))
-number_move n out (N.Value v p) k = refl
-number_move n out (N.Refused e) k = refl
-
-pub number_push : {A B : Type 0} (f : A → B) (out : Fault → A) (x : NumberRead) (k : Number → Place → A)
-    → f (then_number out x k) ≡ then_number (λ e. f (out e)) x (λ v p. f (k v p))
-number_push f out (N.Value v p) k = refl
-number_push f out (N.Refused e) k = refl
 
 module _ (a b : List ℕ) where
   sign_shift : (i : ℕ) → after_sign (a ++ b) (length a + i) ≡ length a + after_sign b i
@@ -72,32 +56,39 @@ module _ (a b : List ℕ) where
       (cond_pulls (move_exponent (length a)) (eqb (get_or b at 0) 101 || eqb (get_or b at 0) 69) (eqb (get_or b (at + 1) 0) 109 || eqb (get_or b (at + 1) 0) 120) _ _ _)
 
   finished_shift : (minus : Bool) (m : Mantissa) (e : Exponent) (start : ℕ)
-      → finished minus (move_mantissa (length a) m) (move_exponent (length a) e) (length a + start) ≡ move_number_read (length a) (finished minus m e start)
+      → finished minus (move_mantissa (length a) m) (move_exponent (length a) e) (length a + start) ≡ moved (move_read move_written) (length a) (finished minus m e start)
   unfolding finished scaled
-  finished_shift minus m e start = simp (cond_push (move_number_read (length a)))
+  finished_shift minus m e start = simp (cond_push (moved (move_read {A = Number} move_written) (length a)))
 
-  from_start_shift : (start : ℕ) → number_from (a ++ b) (length a + start) ≡ move_number_read (length a) (number_from b start)
+  from_start_shift : (start : ℕ) → number_from (a ++ b) (length a + start) ≡ moved (move_read move_written) (length a) (number_from b start)
   unfolding number_from
   from_start_shift start = simp (shifts, sign_shift, mantissa_shift, exponent_shift, finished_shift)
 
-  pub number_shift : (i : ℕ) → parse_number (a ++ b) (length a + i) ≡ move_number_read (length a) (parse_number b i)
-  unfolding parse_number bind
-  number_shift i = simp (shifts, from_start_shift, cond_push (move_number_read (length a)))
+  pub number_shift : (i : ℕ) → parse_number (a ++ b) (length a + i) ≡ moved (move_read move_written) (length a) (parse_number b i)
+  unfolding parse_number
+  number_shift i = simp (shifts, from_start_shift, cond_push (moved (move_read {A = Number} move_written) (length a)))
 
-  pub percent_shift : (i : ℕ) → parse_number_or_percent (a ++ b) (length a + i) ≡ move_number_read (length a) (parse_number_or_percent b i)
+  pub percent_shift : (i : ℕ) → parse_number_or_percent (a ++ b) (length a + i) ≡ moved (move_read move_written) (length a) (parse_number_or_percent b i)
   unfolding parse_number_or_percent
-  percent_shift i = simp (shifts, curr_shift, number_shift, number_move, number_push (move_number_read (length a)), cond_push (move_number_read (length a)))
+  percent_shift i =
+      bind_moved (move_read move_written) (move_read move_written) (length a) (parse_number b i) _ _ _ (number_shift i)
+      (λ r. simp (curr_shift, add_assoc, cond_push (move_read {A = Number} move_written (length a))))
 
-  item_shift : (x : NumberRead) → after_item (a ++ b) (move_number_read (length a) x) ≡ move_number_read (length a) (after_item b x)
-  unfolding after_item bind
-  item_shift x = simp (shifts, separator_shift, number_move, number_push (move_number_read (length a)))
+  pub item_shift : (i : ℕ) → after_item (a ++ b) (length a + i) ≡ length a + after_item b i
+  item_shift i = simp (scan_shift, separator_shift)
 
-  pub list_number_shift : (i : ℕ) → parse_list_number (a ++ b) (length a + i) ≡ move_number_read (length a) (parse_list_number b i)
-  unfolding parse_list_number bind
-  list_number_shift i = simp (shifts, number_shift, item_shift, cond_push (move_number_read (length a)))
+  pub list_number_shift : (i : ℕ) → parse_list_number (a ++ b) (length a + i) ≡ moved (move_read move_written) (length a) (parse_list_number b i)
+  unfolding parse_list_number
+  list_number_shift i =
+      simp (shifts, cond_push (moved (move_read {A = Number} move_written) (length a)))
+      (same_else (leb (length b) i) _ _ _
+      (bind_moved (move_read move_written) (move_read move_written) (length a) (parse_number b i) _ _ _ (number_shift i) (λ r. simp item_shift)))
 
-  pub list_percent_shift : (i : ℕ) → parse_list_number_or_percent (a ++ b) (length a + i) ≡ move_number_read (length a) (parse_list_number_or_percent b i)
-  unfolding parse_list_number_or_percent bind
-  list_percent_shift i = simp (shifts, percent_shift, item_shift, cond_push (move_number_read (length a)))
+  pub list_percent_shift : (i : ℕ) → parse_list_number_or_percent (a ++ b) (length a + i) ≡ moved (move_read move_written) (length a) (parse_list_number_or_percent b i)
+  unfolding parse_list_number_or_percent
+  list_percent_shift i =
+      simp (shifts, cond_push (moved (move_read {A = Number} move_written) (length a)))
+      (same_else (leb (length b) i) _ _ _
+      (bind_moved (move_read move_written) (move_read move_written) (length a) (parse_number_or_percent b i) _ _ _ (percent_shift i) (λ r. simp item_shift)))
 
-pub ruleset number_shifts = (number_shift, percent_shift, list_number_shift, list_percent_shift, number_move)
+pub ruleset number_shifts = (number_shift, percent_shift, list_number_shift, list_percent_shift)

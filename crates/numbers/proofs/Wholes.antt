@@ -15,9 +15,12 @@ use Rattle.text_bytes.proofs.Ahead.{scan_bytes}
 use Rattle.text_bytes.proofs.Ranges.{either, le_or_lt, within_ge, within_le}
 use Rattle.text_bytes.proofs.Scans.{scan_ge}
 use Rattle.numbers.specs.Number.{is_plain, after_sign, mantissa_at, mantissa_dot, exponent_at, exponent_from, parse_number}
-use Rattle.numbers.specs.declared.Number.{Number}
-use Rattle.numbers.specs.declared.NumberRead.TheVariants as N
-use Rattle.numbers.proofs.Values.{values_known, is_e, is_dot, mantissa_least, mantissa_of, exponent_of, number_values, number_known}
+use Rattle.std.specs.Prelude.{Ok}
+use Rattle.stream.specs.declared.Read.{Read}
+use Rattle.stream.proofs.Binds.{at_ok}
+use Rattle.stream.proofs.Stretches.{LiesFrom}
+use Rattle.numbers.specs.Moves.{Number}
+use Rattle.numbers.proofs.Values.{is_e, is_dot, mantissa_least, mantissa_of, exponent_of, number_holds, number_known}
 
 -- all bytes from i to j are plain
 abbrev Plain : List ℕ → ℕ → ℕ → Type 0
@@ -91,13 +94,13 @@ module _ (s : List ℕ) (at : ℕ) where
 
 -- what is shown of a number that was read
 module _ (s : List ℕ) (at : ℕ) where
-  record Ends (n : Number) (p : Place) : Type 0 where
-    whole : (n.whole ≡ true) ↔ Plain s (scan is_space s at) n.end.0
-    least : scan is_space s at < n.end.0
-    same : n.end ≡ p
+  record Ends (r : Read Number) : Type 0 where
+    whole : (r.value.whole ≡ true) ↔ Plain s (scan is_space s at) r.value.end.0
+    least : scan is_space s at < r.value.end.0
+    same : r.value.end ≡ r.next
 
-  number_ends : (n : Number) (p : Place) → parse_number s at ≡ N.Value n p → Ends n p
-  number_ends n p e =
+  number_ends : (r : Read Number) → parse_number s at ≡ Ok r → Ends r
+  number_ends r e =
       let start = scan is_space s at in
       let m = mantissa_of s at in
       let x = exponent_of s at in
@@ -105,17 +108,17 @@ module _ (s : List ℕ) (at : ℕ) where
       let b = marks_mantissa s (after_sign s start) in
       let c = marks_exponent s m.end.0 in
       let v : Marks s start x.end.0 (m.dotted || x.written) = marks_trans a (marks_trans b c) in
-      values_known Ends (parse_number s at) n p
-      (number_values s at Ends (λ l j. record { whole = marks_whole v; least = omega (arith, a.grows, mantissa_least s (after_sign s start) j.mantissa, c.grows); same = refl })) e
+      at_ok Ends (LiesFrom s at) (parse_number s at) r
+      (number_holds s at Ends (λ l j. record { whole = marks_whole v; least = omega (arith, a.grows, mantissa_least s (after_sign s start) j.mantissa, c.grows); same = refl })) e
 
--- THEOREM (document 02, P3): a number is `whole` exactly if no byte from its first to its end is a dot, `e` or `E`
-pub number_whole : (s : List ℕ) (at : ℕ) (n : Number) (p : Place) → parse_number s at ≡ N.Value n p
-    → (n.whole ≡ true) ↔ ((j : ℕ) → scan is_space s at ≤ j → j < n.end.0 → is_plain (get_or s j 0) ≡ true)
-number_whole s at n p e = (number_ends s at n p e).whole
+-- THEOREM: a number is `whole` exactly if no byte from its first to its end is a dot, `e` or `E`
+pub number_whole : (s : List ℕ) (at : ℕ) (r : Read Number) → parse_number s at ≡ Ok r
+    → (r.value.whole ≡ true) ↔ ((j : ℕ) → scan is_space s at ≤ j → j < r.value.end.0 → is_plain (get_or s j 0) ≡ true)
+number_whole s at r e = (number_ends s at r e).whole
 
--- THEOREM (document 02, P3): its end lies after its first byte and inside the text, and reading goes on there
-pub number_end : (s : List ℕ) (at : ℕ) (n : Number) (p : Place) → parse_number s at ≡ N.Value n p
-    → (scan is_space s at < n.end.0) × ((n.end.0 ≤ length s) × (n.end ≡ p))
-number_end s at n p e =
-    let v = number_ends s at n p e in
-    (v.least, (omega (arith, (number_known s at n p e).inside, ap (λ (q : Place). q.0) v.same), v.same))
+-- THEOREM: its end lies after its first byte and inside the text, and reading goes on there
+pub number_end : (s : List ℕ) (at : ℕ) (r : Read Number) → parse_number s at ≡ Ok r
+    → (scan is_space s at < r.value.end.0) × ((r.value.end.0 ≤ length s) × (r.value.end ≡ r.next))
+number_end s at r e =
+    let v = number_ends s at r e in
+    (v.least, (omega (arith, (number_known s at r e).past.inside, ap (λ (q : Place). q.0) v.same), v.same))

@@ -1,11 +1,25 @@
--- What the code holds of a value: no more than the cap. Only contracts inside the crate speak of it.
-use Rattle.std.specs.Prelude.{min}
+-- What the code holds of a value: no more than it has room for. Only contracts inside the crate speak of it.
+use Rattle.std.specs.Prelude.{ℕ, min, Result, Ok, Err, if◌then◌else◌}
+use Rattle.text_bytes.specs.declared.Place.{Place}
 use Rattle.numbers.specs.Digits.{cap}
-use Rattle.numbers.specs.declared.Mantissa.{Mantissa}
-use Rattle.numbers.specs.declared.Exponent.{Exponent}
+use Rattle.numbers.specs.Number.{Mantissa, Exponent}
+use Rattle.numbers.specs.declared.Mantissa as M
+use Rattle.numbers.specs.declared.Exponent as X
+use Rattle.numbers.specs.declared.Scale.{Scale}
 
-abbrev pub held_mantissa : Mantissa → Mantissa
-held_mantissa m = record { ok = m.ok; value = min cap m.value; fraction = m.fraction; dotted = m.dotted; end = m.end }
+-- 2 ^ 64 - 1
+abbrev pub top : ℕ
+top = 18446744073709551615
 
-abbrev pub held_exponent : Exponent → Exponent
-held_exponent e = record { ok = e.ok; minus = e.minus; value = min cap e.value; written = e.written; end = e.end }
+abbrev pub held_mantissa : Mantissa → Result M.Mantissa Place
+held_mantissa m =
+    if m.ok then Ok (record { value = min cap m.value; fraction = m.fraction; dotted = m.dotted; end = m.end })
+    else Err m.end
+
+abbrev pub held_exponent : Exponent → Result X.Exponent Place
+held_exponent e =
+    if e.ok then Ok (record { minus = e.minus; value = min top e.value; written = e.written; end = e.end })
+    else Err e.end
+
+abbrev pub held_scale : Scale → Scale
+held_scale sc = record { down = sc.down; by = min top sc.by }

@@ -1,60 +1,48 @@
 // Decimal text to f64: a number, a number of a list, and either with a `%`.
 #![tactic(auto)]
 
-ghost use Rattle.std.specs.Prelude.{◌≡◌, true, cond, ◌+◌, ◌-◌, ◌*◌, ◌≤◌, ◌<◌, min, drop, length};
+ghost use Rattle.std.specs.Prelude.{◌≡◌, cond, ◌+◌, ◌-◌, ◌*◌, ◌≤◌, ◌<◌, min, drop};
 ghost use Rattle.std.specs.Float.Ieee.{neg};
 ghost use Rattle.text_bytes.specs.Bytes.{is_digit};
 ghost use Rattle.text_bytes.specs.Scan.{scan};
 ghost use Rattle.numbers.specs.Digits.{cap, value};
 ghost use Rattle.numbers.specs.Powers.{power_of};
-ghost use Rattle.numbers.specs.Held.{held_mantissa, held_exponent};
-ghost use Rattle.numbers.specs.Number.{starts_number, after_sign, mantissa_at, exponent_from, no_exponent, exponent_at, scale_of, value_of, refused_at, scaled, finished, number_from, parse_number, parse_number_or_percent, after_item, parse_list_number, parse_list_number_or_percent};
+ghost use Rattle.numbers.specs.Held.{held_mantissa, held_exponent, held_scale};
+ghost use Rattle.numbers.specs.Number.{starts_number, after_sign, mantissa_at, exponent_from, no_exponent, exponent_at, scale_of, signed, value_of, refused_at, number_from, parse_number, parse_number_or_percent, after_item, item, parse_list_number, parse_list_number_or_percent};
 
-use stream::{Fault, Trouble};
+use stream::{Fault, Read, Trouble};
 use text_bytes::Place;
 
-// A number: its value, whether it was written with neither dot nor exponent, and where its own text ended.
-#[derive(Clone, Copy)]
-pub struct Number {
-    pub value: f64,
+// What a number makes, and how the number was written: whether with neither dot nor exponent, and where its own text ended.
+#[derive(Clone, Copy, Debug, PartialEq)]
+pub struct Written<T> {
+    pub value: T,
     pub whole: bool,
     pub end: Place,
 }
 
-// The number and the place where reading goes on, or why there is none.
-#[derive(Clone, Copy)]
-pub enum NumberRead {
-    Value(Number, Place),
-    Refused(Fault),
-}
+pub type Number = Written<f64>;
 
-// A run of digits: where it ends, and its value, held at 2^53.
-#[derive(Clone, Copy)]
-pub struct Digits {
-    pub end: Place,
-    pub value: u64,
-}
-
-// The digits before an exponent, and how many of them are a fraction; `end` is where the form's longest beginning ends.
+// The digits before an exponent, and how many of them are a fraction. `dotted` is told apart, as in the definition, of
+// which theorems of standards speak.
 #[derive(Clone, Copy)]
 struct Mantissa {
-    ok: bool,
     value: u64,
     fraction: usize,
     dotted: bool,
     end: Place,
 }
 
+// The flags are the definition's likewise: `1e0` is written with an exponent, `1` is not, and both have 0.
 #[derive(Clone, Copy)]
 struct Exponent {
-    ok: bool,
     minus: bool,
     value: u64,
     written: bool,
     end: Place,
 }
 
-// By how many places the point moves, and whether down.
+// By how many places the point moves, and whether down: theorems of standards speak of both, so they are no enum.
 #[derive(Clone, Copy)]
 struct Scale {
     down: bool,
@@ -70,6 +58,8 @@ const POWERS: [f64; 23] = [
     1e17, 1e18, 1e19, 1e20, 1e21, 1e22,
 ];
 
+// A clause says that k is in the table, and no type: its callers know it of a sum that they have just tested.
+#[tactic(auto, unfolding(crate::specs::Powers::power_of, crate::specs::Powers::power_bits))]
 pub fn power(k: usize) -> f64
     requires { k < 23 }
     ensures { result ≡ power_of k }
@@ -77,305 +67,277 @@ pub fn power(k: usize) -> f64
     POWERS[k]
 }
 
-// One digit more.
-fn push_digit(a: u64, b: u8) -> u64
-    requires { (a ≤ cap) × (true ≡ is_digit b) }
-    ensures { result ≡ a * 10 + (b - 48) }
+// One digit more, held at the most that is asked for.
+pub fn push_digit(a: u64, b: u8, most: u64) -> u64
+    ensures { result ≡ min most (a * 10 + (b - 48)) }
 {
-    a * 10 + ((b - b'0') as u64)
+    let digit = b.saturating_sub(b'0') as u64;
+    let n = a.saturating_mul(10).saturating_add(digit);
+    n.min(most)
 }
 
-// The digits at a place, read on after the value a; at 2^53 it is held, so that no run of digits overflows.
-pub fn read_digits(text: &[u8], at: Place, a: u64) -> Digits
-    requires { a ≤ cap }
-    ensures { (result.end.0 ≡ scan is_digit text.now at.0) × (result.value ≡ min cap (value a (drop at.0 text.now))) }
+// The digits at a place, read on after the value a; they are held at the most that is asked for, so that no run overflows.
+// One loop for place and value: a scan and then a fold over the digits took a third longer.
+#[tactic(auto, using(crate::proofs::Sums::summed))]
+fn read_held(text: &[u8], at: Place, a: u64, most: u64) -> Read<u64>
+    requires { a ≤ most }
+    ensures next { result.next.0 ≡ scan is_digit text.now at.0 }
+    ensures value { result.value ≡ min most (value a (drop at.0 text.now)) }
 {
     let mut i = at.0;
     let mut n = a;
-    while i < text.len() {
-        let b = text[i];
-        if text_bytes::is_digit(b) {
-            let m = push_digit(n, b);
-            if m < LIMIT {
-                n = m;
-                i += 1;
-            } else {
-                return Digits {
-                    end: text_bytes::skip_digits(text, Place(i)),
-                    value: LIMIT,
-                };
-            }
-        } else {
-            return Digits {
-                end: Place(i),
-                value: n,
-            };
-        }
+    while i < text.len() && text_bytes::is_digit(text[i]) {
+        n = push_digit(n, text[i], most);
+        i += 1;
     }
-    Digits {
-        end: Place(i),
+    Read {
         value: n,
+        next: Place(i),
     }
+}
+
+// The digits at a place, held at 2^53.
+pub fn read_digits(text: &[u8], at: Place, a: u64) -> Read<u64>
+    requires { a ≤ cap }
+    ensures next { result.next.0 ≡ scan is_digit text.now at.0 }
+    ensures value { result.value ≡ min cap (value a (drop at.0 text.now)) }
+{
+    read_held(text, at, a, LIMIT)
 }
 
 // Whether a number may start with a byte.
 pub fn starts_number(b: u8) -> bool
     ensures { result ≡ starts_number b }
 {
-    text_bytes::is_digit(b) | (text_bytes::is_sign(b) | (b == b'.'))
+    text_bytes::is_digit(b) || text_bytes::is_sign(b) || b == b'.'
 }
 
 // The place after an optional sign.
+#[tactic(auto, unfolding(crate::specs::Number::after_sign))]
 pub fn after_sign(text: &[u8], at: Place) -> Place
     ensures { result.0 ≡ after_sign text.now at.0 }
 {
     let i = at.0;
-    if i < text.len() {
-        if text_bytes::is_sign(text[i]) {
-            return Place(i + 1);
-        }
+    if i < text.len() && text_bytes::is_sign(text[i]) {
+        return Place(i + 1);
     }
     at
 }
 
-fn mantissa_at(text: &[u8], at: Place) -> Mantissa
+// Refused is the place where the form's longest beginning ends.
+#[tactic(auto, unfolding(crate::specs::Number::mantissa_at, crate::specs::Number::mantissa_dot), using(crate::proofs::Sums::capped, text_bytes::proofs::Parts::byte_there, text_bytes::proofs::Scans::scan_ge))]
+fn mantissa_at(text: &[u8], at: Place) -> Result<Mantissa, Place>
     ensures { result ≡ held_mantissa (mantissa_at text.now at.0) }
 {
     let whole = read_digits(text, at, 0);
-    let i = at.0;
-    let dot = whole.end;
-    let n = whole.value;
-    if text_bytes::byte_at(text, dot) == b'.' {
-        let next = dot.0 + 1;
-        let part = read_digits(text, Place(next), n);
-        let end = part.end;
-        return Mantissa {
-            ok: next < end.0,
-            value: part.value,
-            fraction: end.0 - next,
-            dotted: true,
-            end,
-        };
+    let dot = whole.next;
+    if text_bytes::byte_at(text, dot) != b'.' {
+        if dot.0 <= at.0 {
+            return Err(dot);
+        }
+        return Ok(Mantissa {
+            value: whole.value,
+            fraction: 0,
+            dotted: false,
+            end: dot,
+        });
     }
-    Mantissa {
-        ok: i < dot.0,
-        value: n,
-        fraction: 0,
-        dotted: false,
-        end: dot,
+    let from = Place(dot.0 + 1);
+    let part = read_digits(text, from, whole.value);
+    if part.next.0 <= from.0 {
+        return Err(part.next);
     }
+    Ok(Mantissa {
+        value: part.value,
+        fraction: part.next.0 - from.0,
+        dotted: true,
+        end: part.next,
+    })
 }
 
-fn exponent_from(text: &[u8], from: Place, minus: bool) -> Exponent
+// At u64::MAX an exponent is out of range still, whatever the fraction: that is shorter than 2^63.
+#[tactic(auto, unfolding(crate::specs::Number::exponent_from))]
+fn exponent_from(text: &[u8], from: Place, minus: bool) -> Result<Exponent, Place>
     ensures { result ≡ held_exponent (exponent_from text.now from.0 minus) }
 {
-    let d = read_digits(text, from, 0);
-    let i = from.0;
-    let end = d.end;
-    Exponent {
-        ok: i < end.0,
-        minus,
-        value: d.value,
-        written: true,
-        end,
+    let digits = read_held(text, from, 0, u64::MAX);
+    if digits.next.0 <= from.0 {
+        return Err(digits.next);
     }
+    Ok(Exponent {
+        minus,
+        value: digits.value,
+        written: true,
+        end: digits.next,
+    })
 }
 
-fn no_exponent(at: Place) -> Exponent
-    ensures { result ≡ no_exponent at.0 }
+fn no_exponent(at: Place) -> Result<Exponent, Place>
+    ensures { result ≡ held_exponent (no_exponent at.0) }
 {
-    Exponent {
-        ok: true,
+    Ok(Exponent {
         minus: false,
         value: 0,
         written: false,
         end: at,
-    }
+    })
 }
 
-fn exponent_at(text: &[u8], at: Place) -> Exponent
+#[tactic(auto, unfolding(crate::specs::Number::exponent_at))]
+fn exponent_at(text: &[u8], at: Place) -> Result<Exponent, Place>
     ensures { result ≡ held_exponent (exponent_at text.now at.0) }
 {
     let i = at.0;
-    if text.len() <= i {
-        return no_exponent(at);
-    }
-    let b = text[i];
-    if !((b == b'e') | (b == b'E')) {
+    if i >= text.len() || !matches!(text[i], b'e' | b'E') {
         return no_exponent(at);
     }
     let next = Place(i + 1);
     let c = text_bytes::byte_at(text, next);
     // `em` and `ex` are units
-    if (c == b'm') | (c == b'x') {
+    if matches!(c, b'm' | b'x') {
         return no_exponent(at);
     }
     exponent_from(text, after_sign(text, next), c == b'-')
 }
 
-fn scale_of(minus: bool, e: u64, f: u64) -> Scale
-    requires { (e ≤ cap) × (f ≤ cap) }
-    ensures { result ≡ scale_of minus e f }
-{
-    if minus {
-        return Scale {
-            down: true,
-            by: e + f,
-        };
-    }
-    if f <= e {
-        return Scale {
-            down: false,
-            by: e - f,
-        };
-    }
-    Scale {
-        down: true,
-        by: f - e,
-    }
-}
-
-fn signed(minus: bool, y: f64) -> f64
-    ensures { result ≡ cond minus (neg y) y }
+#[tactic(auto, unfolding(crate::specs::Number::signed))]
+pub fn signed(minus: bool, y: f64) -> f64
+    ensures { result ≡ signed minus y }
 {
     if minus { -y } else { y }
 }
 
-// Both operands are exact, so that the one operation rounds the decimal itself.
-fn value_of(minus: bool, m: u64, down: bool, by: usize) -> f64
-    requires { (m < cap) × (by < 23) }
-    ensures { result ≡ value_of minus m down by }
-{
-    let x = m as f64;
-    let p = power(by);
-    if down {
-        return signed(minus, x / p);
+impl Scale {
+    // Exponent minus fraction digits.
+    #[tactic(auto, unfolding(crate::specs::Number::scale_of))]
+    fn of(e: Exponent, fraction: u64) -> Scale
+        ensures { result ≡ held_scale (scale_of e.minus e.value fraction) }
+    {
+        if e.minus {
+            return Scale {
+                down: true,
+                by: e.value.saturating_add(fraction),
+            };
+        }
+        Scale {
+            down: e.value < fraction,
+            by: e.value.abs_diff(fraction),
+        }
     }
-    signed(minus, x * p)
+
+    // Both operands are exact, so that the one operation rounds the decimal itself.
+    #[tactic(auto, unfolding(crate::specs::Number::value_of), using(crate::proofs::Steps::whole_in_float))]
+    fn value_of(self, minus: bool, m: u64) -> f64
+        requires { (m < cap) × (self.by < 23) }
+        ensures { result ≡ value_of minus m self.down self.by }
+    {
+        let x = m as f64;
+        let p = power(self.by as usize);
+        if self.down {
+            return signed(minus, x / p);
+        }
+        signed(minus, x * p)
+    }
 }
 
-fn refused_at(trouble: Trouble, start: Place, to: Place) -> NumberRead
+fn refused_at(trouble: Trouble, start: Place, to: Place) -> Fault
     ensures { result ≡ refused_at trouble start.0 to.0 }
 {
-    NumberRead::Refused(stream::trouble_at(trouble, start, start, to))
-}
-
-fn scaled_number(minus: bool, m: u64, s: Scale, whole: bool, start: Place, end: Place) -> NumberRead
-    requires { m < cap }
-    ensures { result ≡ scaled minus m s whole start.0 end.0 }
-{
-    let by = s.by;
-    if by <= 22 {
-        let value = value_of(minus, m, s.down, by as usize);
-        return NumberRead::Value(Number { value, whole, end }, end);
-    }
-    refused_at(Trouble::ScaleOutOfRange, start, end)
+    stream::trouble_at(trouble, start, start, to)
 }
 
 // The form is judged first, then M, then the scale.
-fn finish(minus: bool, m: Mantissa, e: Exponent, start: Place) -> NumberRead
-    requires { (e.value ≤ cap) × (m.fraction ≤ 4096) }
-    ensures { result ≡ finished minus m e start.0 }
-{
-    if !m.ok {
-        return refused_at(Trouble::WrongForm, start, m.end);
-    }
-    let end = e.end;
-    if !e.ok {
-        return refused_at(Trouble::WrongForm, start, end);
-    }
-    let value = m.value;
-    if value < LIMIT {
-        let s = scale_of(e.minus, e.value, m.fraction as u64);
-        return scaled_number(minus, value, s, !(m.dotted | e.written), start, end);
-    }
-    refused_at(Trouble::TooLarge, start, end)
-}
-
-fn number_from(text: &[u8], start: Place) -> NumberRead
-    requires { length text.now ≤ 4096 }
+#[tactic(auto, unfolding(crate::specs::Number::number_from, crate::specs::Number::finished, crate::specs::Number::scaled), using(crate::proofs::Steps::far, crate::proofs::Steps::near, crate::proofs::Steps::fraction_le))]
+fn number_from(text: &[u8], start: Place) -> Result<Read<Number>, Fault>
     ensures { result ≡ number_from text.now start.0 }
 {
-    let b = text_bytes::byte_at(text, start);
-    let m = mantissa_at(text, after_sign(text, start));
-    let end = m.end;
-    let e = exponent_at(text, end);
-    finish(b == b'-', m, e, start)
+    let minus = text_bytes::byte_at(text, start) == b'-';
+    let wrong_form = |to| refused_at(Trouble::WrongForm, start, to);
+    let m = mantissa_at(text, after_sign(text, start)).map_err(wrong_form)?;
+    let e = exponent_at(text, m.end).map_err(wrong_form)?;
+    if m.value >= LIMIT {
+        return Err(refused_at(Trouble::TooLarge, start, e.end));
+    }
+    let scale = Scale::of(e, m.fraction as u64);
+    if scale.by > 22 {
+        return Err(refused_at(Trouble::ScaleOutOfRange, start, e.end));
+    }
+    Ok(Read {
+        value: Written {
+            value: scale.value_of(minus, m.value),
+            whole: !(m.dotted || e.written),
+            end: e.end,
+        },
+        next: e.end,
+    })
 }
 
 // A number, spaces before it skipped.
-pub fn parse_number(text: &[u8], at: Place) -> NumberRead
-    requires { length text.now ≤ 4096 }
+#[tactic(auto, unfolding(crate::specs::Number::parse_number))]
+pub fn parse_number(text: &[u8], at: Place) -> Result<Read<Number>, Fault>
     ensures { result ≡ parse_number text.now at.0 }
 {
     let start = text_bytes::skip_spaces(text, at);
     let i = start.0;
-    if text.len() <= i {
-        return refused_at(Trouble::TextEnded, start, start);
+    if i >= text.len() {
+        return Err(refused_at(Trouble::TextEnded, start, start));
     }
-    if starts_number(text[i]) {
-        return number_from(text, start);
+    if !starts_number(text[i]) {
+        return Err(refused_at(Trouble::WrongByte, start, start));
     }
-    refused_at(Trouble::WrongByte, start, start)
+    number_from(text, start)
 }
 
 // A number, and a `%` directly after it: its hundredth then.
-pub fn parse_number_or_percent(text: &[u8], at: Place) -> NumberRead
-    requires { length text.now ≤ 4096 }
+#[tactic(auto, unfolding(crate::specs::Number::parse_number_or_percent), using(text_bytes::proofs::Wording::curr_ends))]
+pub fn parse_number_or_percent(text: &[u8], at: Place) -> Result<Read<Number>, Fault>
     ensures { result ≡ parse_number_or_percent text.now at.0 }
 {
-    match parse_number(text, at) {
-        NumberRead::Refused(e) => NumberRead::Refused(e),
-        NumberRead::Value(n, p) => {
-            if text_bytes::is_curr_byte_eq(text, p, b'%') {
-                let i = p.0;
-                let end = n.end;
-                return NumberRead::Value(
-                    Number {
-                        value: n.value / 100.0,
-                        whole: n.whole,
-                        end,
-                    },
-                    Place(i + 1),
-                );
-            }
-            NumberRead::Value(n, p)
-        }
+    let read = parse_number(text, at)?;
+    let n = read.value;
+    if text_bytes::is_curr_byte_eq(text, read.next, b'%') {
+        return Ok(Read {
+            value: Written {
+                value: n.value / 100.0,
+                ..n
+            },
+            next: Place(read.next.0 + 1),
+        });
     }
+    Ok(read)
 }
 
-// What was read, and reading to go on after spaces and one optional comma.
-fn after_item(text: &[u8], read: NumberRead) -> NumberRead
-    ensures { result ≡ after_item text.now read }
+// The place after spaces and one optional comma, which end an item of a list.
+pub fn after_item(text: &[u8], at: Place) -> Place
+    ensures { result.0 ≡ after_item text.now at.0 }
 {
-    match read {
-        NumberRead::Refused(e) => NumberRead::Refused(e),
-        NumberRead::Value(n, p) => {
-            let next = text_bytes::skip_spaces(text, p);
-            NumberRead::Value(n, stream::parse_list_separator(text, next))
-        }
+    stream::parse_list_separator(text, text_bytes::skip_spaces(text, at))
+}
+
+// An item of a list: what was read, and what ends it passed.
+pub fn item<T: Drop>(text: &[u8], read: Read<T>) -> Read<T>
+    ensures { result ≡ item text.now read }
+{
+    Read {
+        value: read.value,
+        next: after_item(text, read.next),
     }
 }
 
-// A number of a list. The end of the text is judged before spaces are skipped.
-pub fn parse_list_number(text: &[u8], at: Place) -> NumberRead
-    requires { length text.now ≤ 4096 }
+// A number of a list. The end of the text is judged before spaces are skipped. Two calls, as of the one below: a reader as a parameter
+// would want its contract there.
+#[tactic(auto, unfolding(crate::specs::Number::parse_list_number))]
+pub fn parse_list_number(text: &[u8], at: Place) -> Result<Read<Number>, Fault>
     ensures { result ≡ parse_list_number text.now at.0 }
 {
-    let i = at.0;
-    if text.len() <= i {
-        return NumberRead::Refused(stream::unexpected_end(text));
-    }
-    after_item(text, parse_number(text, at))
+    stream::goes_on(text, at)?;
+    Ok(item(text, parse_number(text, at)?))
 }
 
-pub fn parse_list_number_or_percent(text: &[u8], at: Place) -> NumberRead
-    requires { length text.now ≤ 4096 }
+#[tactic(auto, unfolding(crate::specs::Number::parse_list_number_or_percent))]
+pub fn parse_list_number_or_percent(text: &[u8], at: Place) -> Result<Read<Number>, Fault>
     ensures { result ≡ parse_list_number_or_percent text.now at.0 }
 {
-    let i = at.0;
-    if text.len() <= i {
-        return NumberRead::Refused(stream::unexpected_end(text));
-    }
-    after_item(text, parse_number_or_percent(text, at))
+    stream::goes_on(text, at)?;
+    Ok(item(text, parse_number_or_percent(text, at)?))
 }

@@ -9,41 +9,39 @@ use borrow.Author.Tests.{ne_eqb}
 use lib.Ieee.{eq}
 use lib.ListN.{length, get_or, drop}
 use Rattle.text_bytes.specs.Bytes.{within, is_space}
-use Rattle.text_bytes.specs.Flow.{bind}
 use Rattle.text_bytes.specs.Moves.{place}
 use Rattle.text_bytes.specs.Scan.{run}
 use Rattle.text_bytes.specs.Words.{ascii, starts_with, same, is_curr_byte_eq}
 use Rattle.text_bytes.proofs.Ranges.{either}
 use Rattle.text_bytes.proofs.Wording.{begins_with}
-use Rattle.utf8.specs.Characters.{calc_char_pos_at}
 use Rattle.stream.specs.Faults.{trouble_at}
-use Rattle.stream.specs.Refusals.{number_of}
+use Rattle.stream.specs.Refusals.{number_of, reason_number}
 use Rattle.stream.specs.declared.Trouble.TheVariants as T
 use Rattle.floats.specs.Floats.{d0, sign_of}
 use Rattle.numbers.specs.Number.{parse_number, parse_number_or_percent}
-use Rattle.numbers.specs.declared.NumberRead.TheVariants as N
 use Rattle.length.specs.Lengths.{unit_at, unit_width, parse_length}
 use Rattle.length.specs.declared.LengthUnit.TheVariants as U
 use Rattle.angle.specs.Angles.{parse_unit}
-use Rattle.angle.specs.declared.AngleUnitRead.TheVariants as A
 use Rattle.filter_functions.specs.Filters.{plain_name, filter_name, argument_of}
 use Rattle.filter_functions.specs.Values.{is_percent, parse_filter_positive_length, parse_filter_angle, parse_blur, parse_hue_rotate, parse_generic_color_func}
 use Rattle.filter_functions.specs.Shadow.{parse_drop_shadow_func}
 use Rattle.filter_functions.specs.declared.Plain.{Plain}
-use Rattle.filter_functions.specs.declared.FilterRead.{FilterRead}
-use Rattle.filter_functions.specs.declared.FilterRead.TheVariants as F
+use Rattle.filter_functions.specs.declared.FilterValue.{FilterValue}
+use Rattle.stream.specs.declared.Fault.{Fault}
+use Rattle.stream.specs.declared.Read.{Read}
+use Rattle.std.specs.Prelude.{Result, Err, None}
 use Rattle.standards.specs.Ieee754.{double}
 use Rattle.standards.specs.CssValues3.{is_minus, joined, Number, number, exactly, is_integer, percentage, AngleUnit, deg, grad, rad, turn, angle_unit}
 use Rattle.standards.specs.Domain.{InDomain}
 use Rattle.standards.specs.FilterEffects1.{Simple, brightness, contrast, grayscale, invert, opacity, saturate, sepia, simple_name, name}
-use Rattle.standards.specs.Answers.{Apart}
+use Rattle.standards.specs.Answers.{Apart, read_on}
 use Rattle.standards.proofs.Cursors.{blanks_scan, curr_is, curr_not, spaced_past}
 use Rattle.standards.proofs.Numbers.{number_at}
 use Rattle.standards.proofs.Reading.{ends_percent, ends_apart}
 use Rattle.standards.proofs.Runs.{no_space, number_first}
 use Rattle.standards.proofs.Signs.{double_sign, hundredth_sign}
 use Rattle.only.proofs.Nonzero.{not_zero}
-use Rattle.only.specs.Only.{Opens, name_at, held_at, Refuses}
+use Rattle.only.specs.Only.{Opens, name_at, held_at, position_at, Refuses}
 use Rattle.only.proofs.Steps.{refuses, Reads, at_held, refused}
 
 -- the names
@@ -84,24 +82,24 @@ module _ (s : List ℕ) (name at : ℕ) (t : Number) (rest : List ℕ) (d : InDo
   abbrev end : ℕ
   end = at + (0 + length (number t))
 
-  read : parse_number s at ≡ N.Value (record { value = double (exactly t); whole = is_integer t; end = place end }) (place end)
+  read : parse_number s at ≡ read_on (record { value = double (exactly t); whole = is_integer t; end = place end }) (place end)
   read = number_at s at [] t rest d e h
 
-  blur_negative : is_minus t.signed ≡ true → parse_blur s name at ≡ F.Refused (trouble_at T.NegativeValue at name (end + unit_width (unit_at s end)))
-  unfolding parse_blur parse_filter_positive_length parse_length bind
+  blur_negative : is_minus t.signed ≡ true → parse_blur s name at ≡ Err (trouble_at T.NegativeValue at name (end + unit_width (unit_at s end)))
+  unfolding parse_blur parse_filter_positive_length parse_length
   blur_negative m = simp (open_still, read, signed t, m)
 
   amount_negative : (f : Plain) → is_minus t.signed ≡ true
-      → parse_generic_color_func s name at f ≡ F.Refused (trouble_at T.NegativeValue at name (cond (is_curr_byte_eq s end 37) (end + 1) end))
+      → parse_generic_color_func s name at f ≡ Err (trouble_at T.NegativeValue at name (cond (is_curr_byte_eq s end 37) (end + 1) end))
   unfolding parse_generic_color_func parse_number_or_percent
   amount_negative f m = either (is_curr_byte_eq s end 37) (λ q. simp (open_still, read, q, hundredth_sign, signed t, m)) (λ q. simp (open_still, read, q, signed t, m))
 
-  blur_percentage : is_minus t.signed ≡ false → unit_at s end ≡ U.Percent → parse_blur s name at ≡ F.Refused (trouble_at T.PercentageValue at name (end + 1))
-  unfolding parse_blur parse_filter_positive_length parse_length bind is_percent unit_width
+  blur_percentage : is_minus t.signed ≡ false → unit_at s end ≡ U.Percent → parse_blur s name at ≡ Err (trouble_at T.PercentageValue at name (end + 1))
+  unfolding parse_blur parse_filter_positive_length parse_length is_percent unit_width
   blur_percentage m u = simp (open_still, read, signed t, m, u)
 
-  hue_unmarked : eq (double (exactly t)) d0 ≡ false → parse_unit s end ≡ A.Missing → parse_hue_rotate s name at ≡ F.Refused (trouble_at T.InvalidAngle at name end)
-  unfolding parse_hue_rotate parse_filter_angle bind
+  hue_unmarked : eq (double (exactly t)) d0 ≡ false → parse_unit s end ≡ None → parse_hue_rotate s name at ≡ Err (trouble_at T.InvalidAngle at name end)
+  unfolding parse_hue_rotate parse_filter_angle
   hue_unmarked z u = simp (open_still, blanks_scan s at [] (number t ++ rest) h (number_unspaced t rest) ∙ add-zero at, read, u, z)
 
 percent_there : (s : List ℕ) (i : ℕ) (rest : List ℕ) → drop i s ≡ 37 ∷ rest → unit_at s i ≡ U.Percent
@@ -109,7 +107,7 @@ unfolding unit_at starts_with
 percent_there s i rest h = simp h
 
 -- where no unit of an angle stands, none is read
-no_angle_unit : (s : List ℕ) (i : ℕ) → ((u : AngleUnit) (r : List ℕ) → drop i s ≡ angle_unit u ++ r → ⊥) → parse_unit s i ≡ A.Missing
+no_angle_unit : (s : List ℕ) (i : ℕ) → ((u : AngleUnit) (r : List ℕ) → drop i s ≡ angle_unit u ++ r → ⊥) → parse_unit s i ≡ None
 unfolding parse_unit angle_unit
 no_angle_unit s i none = simp (never (ascii "deg") deg refl, never (ascii "grad") grad refl, never (ascii "rad") rad refl, never (ascii "turn") turn refl)
   where
@@ -117,7 +115,7 @@ no_angle_unit s i none = simp (never (ascii "deg") deg refl, never (ascii "grad"
     never w u q = either (starts_with w (drop i s)) (λ b. absurd (none u (drop (length w) (drop i s)) (begins_with w (drop i s) b ∙ rw q refl))) (λ b. b)
 
 -- the seven names are those of the plain functions
-plain_is : (f : Simple) (s : List ℕ) (name at : ℕ) (x : FilterRead) → ((g : Plain) → parse_generic_color_func s name at g ≡ x) → argument_of (filter_name (simple_name f)) s name at ≡ x
+plain_is : (f : Simple) (s : List ℕ) (name at : ℕ) (x : Result (Read FilterValue) Fault) → ((g : Plain) → parse_generic_color_func s name at g ≡ x) → argument_of (filter_name (simple_name f)) s name at ≡ x
 unfolding simple_name filter_name plain_name same
 plain_is brightness s name at x h = h Plain.Brightness
 plain_is contrast s name at x h = h Plain.Contrast
@@ -129,16 +127,16 @@ plain_is sepia s name at x h = h Plain.Sepia
 
 module _ {s : List ℕ} {i : ℕ} (t : Number) (rest : List ℕ) where
   -- THEOREM. A blur of a number with a minus sign is refused by 12
-  pub negative_blur : (o : Opens s i (ascii "blur") (number t ++ rest)) → InDomain t → is_minus t.signed ≡ true → Apart t rest → Refuses s i 12 (calc_char_pos_at s (held_at o))
-  unfolding filter_name same number_of
+  pub negative_blur : (o : Opens s i (ascii "blur") (number t ++ rest)) → InDomain t → is_minus t.signed ≡ true → Apart t rest → Refuses s i 12 (position_at s (held_at o))
+  unfolding filter_name same reason_number number_of
   negative_blur o d m e =
       let sp = number_unspaced t rest in
       refuses s i T.NegativeValue (held_at o) (name_at o) _ refl o.stands.admitted
       (refused o blur_reads sp _ (blur_negative s (name_at o) (held_at o) t rest d e (at_held o blur_reads) m))
 
   -- THEOREM. So is each of the seven plain functions, of a number and of a percentage
-  pub negative_amount : (f : Simple) (o : Opens s i (simple_name f) (number t ++ rest)) → InDomain t → is_minus t.signed ≡ true → Apart t rest → Refuses s i 12 (calc_char_pos_at s (held_at o))
-  unfolding number_of
+  pub negative_amount : (f : Simple) (o : Opens s i (simple_name f) (number t ++ rest)) → InDomain t → is_minus t.signed ≡ true → Apart t rest → Refuses s i 12 (position_at s (held_at o))
+  unfolding reason_number number_of
   negative_amount f o d m e =
       let sp = number_unspaced t rest in
       refuses s i T.NegativeValue (held_at o) (name_at o) _ refl o.stands.admitted
@@ -146,8 +144,8 @@ module _ {s : List ℕ} {i : ℕ} (t : Number) (rest : List ℕ) where
 
   -- THEOREM. A hue-rotate of a number that is not zero, with no unit, is refused by 13
   pub unmarked_angle : (o : Opens s i (ascii "hue-rotate") (number t ++ rest)) → InDomain t → (joined t.digits_of ≡ 0 → ⊥) → Apart t rest
-      → ((u : AngleUnit) (r : List ℕ) → rest ≡ angle_unit u ++ r → ⊥) → Refuses s i 13 (calc_char_pos_at s (held_at o))
-  unfolding filter_name same number_of
+      → ((u : AngleUnit) (r : List ℕ) → rest ≡ angle_unit u ++ r → ⊥) → Refuses s i 13 (position_at s (held_at o))
+  unfolding filter_name same reason_number number_of
   unmarked_angle o d z e none =
       let sp = number_unspaced t rest in
       let h = at_held o hue_reads in
@@ -158,8 +156,8 @@ module _ {s : List ℕ} {i : ℕ} (t : Number) (rest : List ℕ) where
 
 -- THEOREM. A blur of a percentage is refused by 11
 pub percentage_blur : {s : List ℕ} {i : ℕ} (t : Number) (rest : List ℕ) (o : Opens s i (ascii "blur") (percentage t ++ rest)) → InDomain t → is_minus t.signed ≡ false
-    → Refuses s i 11 (calc_char_pos_at s (held_at o))
-unfolding filter_name same number_of
+    → Refuses s i 11 (position_at s (held_at o))
+unfolding filter_name same reason_number number_of
 percentage_blur {s} {i} t rest o d m =
     let after : List ℕ = 37 ∷ rest in
     let q : percentage t ++ rest ≡ number t ++ after = append_assoc (number t) (37 ∷ []) rest in
@@ -171,8 +169,8 @@ percentage_blur {s} {i} t rest o d m =
     (refused o blur_reads sp _ (blur_percentage s (name_at o) at t after d (ends_apart t (ends_percent rest)) h m (percent_there s _ rest p)))
 
 -- THEOREM. drop-shadow() is refused by 14
-pub empty_shadow : {s : List ℕ} {i : ℕ} (rest : List ℕ) (o : Opens s i (ascii "drop-shadow") (41 ∷ rest)) → Refuses s i 14 (calc_char_pos_at s (held_at o))
-unfolding filter_name same number_of parse_drop_shadow_func
+pub empty_shadow : {s : List ℕ} {i : ℕ} (rest : List ℕ) (o : Opens s i (ascii "drop-shadow") (41 ∷ rest)) → Refuses s i 14 (position_at s (held_at o))
+unfolding filter_name same reason_number number_of parse_drop_shadow_func
 empty_shadow {s} {i} rest o =
     refuses s i T.MissingDropShadowOffset (held_at o) (name_at o) (held_at o) refl o.stands.admitted
     (refused o shadow_reads refl (trouble_at T.MissingDropShadowOffset (held_at o) (name_at o) (held_at o)) (simp (curr_is s (held_at o) 41 rest (at_held o shadow_reads))))

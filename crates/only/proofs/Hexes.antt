@@ -8,33 +8,28 @@ use borrow.Author.Tests.{ltb-false}
 use lib.Dec.{T, ltb}
 use lib.ListN.{length, drop, length-append, length-map}
 use Rattle.text_bytes.specs.Bytes.{is_space}
-use Rattle.text_bytes.specs.Flow.{bind}
 use Rattle.text_bytes.specs.Moves.{place}
 use Rattle.text_bytes.specs.Scan.{scan}
 use Rattle.text_bytes.specs.declared.Place.{Place}
-use Rattle.text_bytes.proofs.Ranges.{either}
-use Rattle.stream.specs.Refusals.{refusal_of}
-use Rattle.stream.proofs.Insides.{text_edge}
+use Rattle.stream.specs.declared.Fault.{Fault}
+use Rattle.stream.specs.declared.Read.{Read}
+use Rattle.stream.specs.Moves.{move_read, moved, stays}
+use Rattle.stream.proofs.Binds.{at_ok, bind_ok}
+use Rattle.std.specs.Prelude.{Result, Ok, Err, MatchResult}
 use Rattle.color.specs.Answer.{from_str}
 use Rattle.color.specs.Color.{parse_color, parse_color_text}
-use Rattle.color.specs.Moves.{move_color_read}
 use Rattle.color.specs.declared.Color.{Color}
-use Rattle.color.specs.declared.ColorRead.{ColorRead}
-use Rattle.color.specs.declared.ColorRead.TheVariants as C
-use Rattle.color.specs.declared.ColorAnswer.{ColorAnswer}
-use Rattle.color.specs.declared.ColorAnswer.TheVariants as A
-use Rattle.color.proofs.Values.{all_colors, colors_all}
 use Rattle.standards.specs.CssValues3.{Blank, blanks}
 use Rattle.standards.specs.CssColor4.{HexColor, character, digits, hex_text, channels}
-use Rattle.standards.specs.Answers.{color_of}
+use Rattle.standards.specs.Answers.{color_of, read_on}
 use Rattle.standards.proofs.Colours.{after_blanks}
-use Rattle.standards.proofs.Cursors.{drop_past, scan_on}
+use Rattle.standards.proofs.Cursors.{one_value, drop_past, scan_on}
 use Rattle.standards.proofs.Hex as Hex
 use Rattle.only.specs.Only.{limit, HexWhole}
 use Rattle.only.proofs.Cuts.{spaces}
-
-same_place : (c d : Color) (p q : Place) → C.Value c p ≡ C.Value d q → p.0 ≡ q.0
-same_place c d p q h = ap (λ (x : Place). x.0) (let z : p ≡ q = cc in z)
+use Rattle.stream.proofs.Edges.{edge_read}
+use Rattle.only.proofs.Measures.{same_value, at_end}
+use Rattle.only.proofs.Numbers.{one_place}
 
 empty : (x : List ℕ) → length x ≤ 0 → x ≡ []
 empty [] h = refl
@@ -52,16 +47,16 @@ module _ (l : List Blank) (hashed : List ℕ) where
     meant : c ≡ color_of (channels tree)
     after : p.0 ≡ length l + length (hex_text tree)
 
-  fronts : all_colors Front (parse_color s 0)
+  fronts : MatchResult (parse_color s 0) (λ r. Front r.value r.next) (λ _. T true)
   fronts = rw (after_blanks l (35 ∷ hashed)) (go (parse_color (35 ∷ hashed) 0) refl)
     where
-      go : (x : ColorRead) → parse_color (35 ∷ hashed) 0 ≡ x → all_colors Front (move_color_read (length l) x)
-      go (C.Refused e) q = tt
-      go (C.Value c p) q =
-          let w = Hex.hex_only hashed c p q in
+      go : (x : Result (Read Color) Fault) → parse_color (35 ∷ hashed) 0 ≡ x → MatchResult (moved (move_read stays) (length l) x) (λ r. Front r.value r.next) (λ _. T true)
+      go (Err e) q = tt
+      go (Ok f) q =
+          let w = Hex.hex_only hashed f.value f.next q in
           let r = Hex.hex_read w.tree w.rest w.ended in
-          let z : C.Value c p ≡ C.Value (color_of (channels w.tree)) (place (1 + length (digits w.tree))) = sym q ∙ rw w.text at r in
-          let y : p.0 ≡ 1 + length (digits w.tree) = same_place c (color_of (channels w.tree)) p (place (1 + length (digits w.tree))) z in
+          let z : read_on f.value f.next ≡ read_on (color_of (channels w.tree)) (place (1 + length (digits w.tree))) = sym q ∙ rw w.text at r in
+          let y : f.next.0 ≡ 1 + length (digits w.tree) = ap (λ (x : Place). x.0) (one_place z) in
           record { tree = w.tree; rest = w.rest; text = ap (λ (y : List ℕ). blanks l ++ y) (sym w.text); meant = w.read; after = omega (arith, y, length-map (digits w.tree) character) }
 
   -- what follows it up to the end is white space
@@ -78,19 +73,16 @@ module _ (l : List Blank) (hashed : List ℕ) where
       let y : f.rest ≡ blanks m.taken = m.text ∙ rw (z, append-nil) refl in
       record { before = l; tree = f.tree; after = m.taken; text = f.text ∙ ap (λ (y : List ℕ). blanks l ++ (h ++ y)) y; meant = f.meant; short = short }
 
-abbrev Answers : List ℕ → ColorAnswer → Type 0
-Answers s (A.Value c) = HexWhole s c
-Answers s (A.Refused e) = T true
-
 -- THEOREM
-pub hex_only : (l : List Blank) (rest : List ℕ) (c : Color) → from_str (blanks l ++ (35 ∷ rest)) ≡ A.Value c → HexWhole (blanks l ++ (35 ∷ rest)) c
-unfolding from_str parse_color_text bind
+pub hex_only : (l : List Blank) (rest : List ℕ) (c : Color) → from_str (blanks l ++ (35 ∷ rest)) ≡ Ok c → HexWhole (blanks l ++ (35 ∷ rest)) c
+unfolding from_str parse_color_text
 hex_only l rest c q =
     let s : List ℕ = blanks l ++ (35 ∷ rest) in
-    let w : Answers s (from_str s) =
-    text_edge (Answers s) s A.Refused _ (λ e h. tt)
-    (λ short. colors_all (Answers s) (λ c p. HexWhole s c) (parse_color_text s) (λ e. A.Refused (refusal_of s e)) _
-    (colors_all (all_colors (λ c p. HexWhole s c)) (Front l rest) (parse_color s 0) C.Refused _ (fronts l rest) (λ e. tt)
-    (λ c p f. either (ltb (scan is_space s p.0) (length s)) (λ t. simp t tt) (λ t. simp t (closed l rest c p f (ltb-false (scan is_space s p.0) (length s) t) short))))
-    (λ e. tt) (λ c p t. t)) in
-    rw q at w
+    let w = edge_read s (parse_color_text s) _ q in
+    let k = bind_ok (parse_color s 0) _ w.1.1.0 in
+    let r = k.0 in
+    let f = at_ok (λ r. Front l rest r.value r.next) (λ _. T true) (parse_color s 0) r (fronts l rest) k.1.0 in
+    let t = at_end (ltb (scan is_space s r.next.0) (length s)) _ _ k.1.1 in
+    let y : read_on r.value (place (length s)) ≡ read_on w.1.0.value w.1.0.next = simp t at k.1.1 in
+    let h = closed l rest r.value r.next f (ltb-false (scan is_space s r.next.0) (length s) t) w.0 in
+    record { before = h.before; tree = h.tree; after = h.after; text = h.text; meant = sym (one_value y ∙ same_value w.1.1.1) ∙ h.meant; short = h.short }

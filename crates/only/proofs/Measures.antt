@@ -1,45 +1,36 @@
 -- What is answered as a length or as an angle is one of SVG 2, after white space, and nothing else.
 use Prim.Native.Nat.{ℕ, ◌+◌, ◌≤◌}
-use mathlib.Core.Bool.{true, cond}
+use mathlib.Core.Bool.{Bool, true, false, cond}
 use mathlib.Core.List.{List, ◌++◌, append-nil}
 use mathlib.Core.Path.{◌≡◌, refl, sym, ap, ◌∙◌}
 use native.Mathlib.Nat.{add-zero}
+use native.Mathlib.Omega.{arith}
 use borrow.Author.Tests.{ltb-false}
 use lib.Dec.{T, ltb}
 use lib.ListN.{length, drop, drop_of_length-le}
 use lib.Seq.{drop-drop}
-use Rattle.text_bytes.specs.Flow.{bind}
 use Rattle.text_bytes.specs.Moves.{place}
 use Rattle.text_bytes.specs.Words.{ascii, starts_with}
 use Rattle.text_bytes.specs.declared.Place.{Place}
 use Rattle.text_bytes.proofs.Ranges.{either}
 use Rattle.text_bytes.proofs.Wording.{begins_with}
-use Rattle.stream.specs.Refusals.{refusal_of}
-use Rattle.stream.proofs.Insides.{text_edge}
+use Rattle.stream.specs.declared.Read.{Read}
+use Rattle.stream.proofs.Binds.{bind_known, at_ok, bind_ok}
+use Rattle.stream.proofs.Edges.{edge_whole}
+use Rattle.std.specs.Prelude.{Result, Ok, Err, Option, Some, None, MatchResult, MatchOption}
 use Rattle.numbers.specs.Number.{parse_number}
-use Rattle.numbers.specs.declared.Number as Read
-use Rattle.numbers.specs.declared.NumberRead.TheVariants as N
-use Rattle.numbers.proofs.Values.{values_all, numbers_read}
+use Rattle.numbers.specs.Moves as Numbers
+use Rattle.numbers.specs.declared.Written.{Written}
 use Rattle.length.specs.Lengths as Lengths
-use Rattle.length.specs.Lengths.{unit_at, unit_rest, unit_width, parse_length}
+use Rattle.length.specs.Lengths.{unit_at, unit_width, parse_length}
 use Rattle.length.specs.declared.Length.{Length}
 use Rattle.length.specs.declared.LengthUnit.{LengthUnit}
 use Rattle.length.specs.declared.LengthUnit.TheVariants as U
-use Rattle.length.specs.declared.LengthRead.TheVariants as L
-use Rattle.length.specs.declared.LengthAnswer.{LengthAnswer}
-use Rattle.length.specs.declared.LengthAnswer.TheVariants as LA
-use Rattle.length.proofs.Values.{all_lengths, lengths_all}
 use Rattle.angle.specs.Angles as Angles
-use Rattle.angle.specs.Angles.{parse_unit, parse_angle}
+use Rattle.angle.specs.Angles.{parse_unit, or_degrees, parse_angle}
 use Rattle.angle.specs.declared.Angle.{Angle}
 use Rattle.angle.specs.declared.AngleUnit.{AngleUnit}
 use Rattle.angle.specs.declared.AngleUnit.TheVariants as W
-use Rattle.angle.specs.declared.AngleUnitRead.{AngleUnitRead}
-use Rattle.angle.specs.declared.AngleUnitRead.TheVariants as F
-use Rattle.angle.specs.declared.AngleRead.TheVariants as R
-use Rattle.angle.specs.declared.AngleAnswer.{AngleAnswer}
-use Rattle.angle.specs.declared.AngleAnswer.TheVariants as Ra
-use Rattle.angle.proofs.Values.{all_units, units_all, all_angles, angles_all}
 use Rattle.standards.specs.CssValues3.{Blank, blanks, Number, number}
 use Rattle.standards.specs.CssValues3 as Css
 use Rattle.standards.specs.Domain.{InDomain}
@@ -50,7 +41,7 @@ use Rattle.only.specs.Only.{NumberThere, limit}
 use Rattle.only.proofs.Numbers.{number_there}
 
 -- a number and a unit that is read up to q, where the text has ended, are the whole text
-whole_text : (s : List ℕ) (n : Read.Number) (p : Place) (t : NumberThere s 0 n p) (u : List ℕ) (q : ℕ) → drop p.0 s ≡ u ++ drop q s → length s ≤ q
+whole_text : (s : List ℕ) (n : Numbers.Number) (p : Place) (t : NumberThere s 0 n p) (u : List ℕ) (q : ℕ) → drop p.0 s ≡ u ++ drop q s → length s ≤ q
     → s ≡ blanks t.before ++ (number t.tree ++ u)
 whole_text s n p t u q h e =
     let z : t.rest ≡ u = sym (spaced_past s 0 t.before (number t.tree) t.rest t.text) ∙ rw (ap (λ (k : Place). k.0) t.after, drop_of_length-le s {i = q} e, append-nil) at h in
@@ -66,7 +57,7 @@ module _ (s : List ℕ) (i : ℕ) where
   tried w t u e k b a = record { tree = t; text = rw (e, a, k) (begins_with w (drop i s) b ∙ ap (λ (y : List ℕ). w ++ y) (drop-drop (length w) i s)) }
 
   unit_there : UnitThere s i
-  unfolding unit_at unit_rest unit_width length_unit Css.length_unit
+  unfolding unit_at unit_width length_unit Css.length_unit
   unit_there =
       either (starts_with (ascii "%") (drop i s)) (λ x. tried (ascii "%") S.percent U.Percent refl refl x (simp x))
       (λ a. either (starts_with (ascii "em") (drop i s)) (λ x. tried (ascii "em") (S.unit Css.em) U.Em refl refl x (simp (a, x)))
@@ -109,31 +100,36 @@ LengthFront s q = Front length_text (λ t. t.number_part) s q
 abbrev AngleFront : List ℕ → Place → Type 0
 AngleFront s q = Front angle_text (λ t. t.number_part) s q
 
-length_front : (s : List ℕ) → all_lengths (λ l n q. LengthFront s q) (parse_length s 0)
-unfolding parse_length bind length_text
+length_front : (s : List ℕ) → MatchResult (parse_length s 0) (λ r. LengthFront s r.next) (λ _. T true)
+unfolding parse_length length_text
 length_front s =
-    values_all (all_lengths (λ l n q. LengthFront s q)) (λ n p. parse_number s 0 ≡ N.Value n p) (parse_number s 0) L.Refused _ (numbers_read (parse_number s 0)) (λ e. tt)
-    (λ n p e.
-    let t = number_there s 0 n p e in
-    let u = unit_there s p.0 in
-    record { before = t.before; tree = record { number_part = t.tree; unit_part = u.tree }; domain = t.domain; text = λ h. whole_text s n p t (length_unit u.tree) _ u.text h })
+    bind_known (λ r. LengthFront s r.next) (λ _. T true) (parse_number s 0) _ (λ x e. tt)
+    (λ r e.
+    let t = number_there s 0 r.value r.next e in
+    let u = unit_there s r.next.0 in
+    record {
+      before = t.before;
+      tree = record { number_part = t.tree; unit_part = u.tree };
+      domain = t.domain;
+      text = λ h. whole_text s r.value r.next t (length_unit u.tree) _ u.text h;
+    })
 
-abbrev LengthAnswers : List ℕ → LengthAnswer → Type 0
-LengthAnswers s (LA.Value v n) = LengthShape s
-LengthAnswers s (LA.Refused e) = T true
+pub same_value : {A E : Type 0} {a b : A} → ◌≡◌ {A = Result A E} (Ok a) (Ok b) → a ≡ b
+same_value e = cc
+
+-- what is refused where bytes remain was answered at the end alone
+pub at_end : {A E : Type 0} (t : Bool) (x : E) (y : Result A E) {a : A} → cond t (Err x) y ≡ Ok a → t ≡ false
+at_end true x y e = let z : ◌≡◌ {A = ℕ} 0 1 = cc in absurd (omega arith)
+at_end false x y e = refl
 
 -- a text that is answered as a length is one
-pub length_shape : (s : List ℕ) (v : Length) (n : Read.Number) → Lengths.from_str s ≡ LA.Value v n → LengthShape s
+pub length_shape : (s : List ℕ) (v : Written Length) → Lengths.from_str s ≡ Ok v → LengthShape s
 unfolding Lengths.from_str Lengths.parse_whole
-length_shape s v n e =
-    let w : LengthAnswers s (Lengths.from_str s) =
-    text_edge (LengthAnswers s) s LA.Refused _ (λ e h. tt)
-    (λ short. lengths_all (LengthAnswers s) (λ l n p. LengthShape s) (Lengths.parse_whole s) (λ e. LA.Refused (refusal_of s e)) _
-    (lengths_all (all_lengths (λ l n p. LengthShape s)) (λ l n q. LengthFront s q) (parse_length s 0) L.Refused _ (length_front s) (λ e. tt)
-    (λ l n q f. either (ltb q.0 (length s)) (λ t. simp t tt)
-    (λ t. simp t (ended s q f (ltb-false q.0 (length s) t) short))))
-    (λ e. tt) (λ l n p t. t)) in
-    rw e at w
+length_shape s v e =
+    let w = edge_whole s (Lengths.parse_whole s) e in
+    let k = bind_ok (parse_length s 0) _ w.1 in
+    let f = at_ok (λ r. LengthFront s r.next) (λ _. T true) (parse_length s 0) k.0 (length_front s) k.1.0 in
+    ended s k.0.next f (ltb-false k.0.next.0 (length s) (at_end (ltb k.0.next.0 (length s)) _ _ k.1.1)) w.0
 
 -- the unit of an angle, after which reading goes on at q
 record AngleUnitThere (s : List ℕ) (i : ℕ) (q : Place) : Type 0 where
@@ -141,10 +137,11 @@ record AngleUnitThere (s : List ℕ) (i : ℕ) (q : Place) : Type 0 where
   text : drop i s ≡ angle_unit tree ++ drop q.0 s
 
 module _ (s : List ℕ) (i : ℕ) where
-  abbrev Units : AngleUnitRead → Type 0
-  Units x = all_units (λ u q. AngleUnitThere s i q) x
+  abbrev Units : Option (Read AngleUnit) → Type 0
+  Units x = MatchOption x (T true) (λ u. AngleUnitThere s i u.next)
 
-  unit_tried : (w : List ℕ) (t : Css.AngleUnit) (u : AngleUnit) (y : AngleUnitRead) → Css.angle_unit t ≡ w → Units y → Units (cond (starts_with w (drop i s)) (F.Found u (place (i + length w))) y)
+  unit_tried : (w : List ℕ) (t : Css.AngleUnit) (u : AngleUnit) (y : Option (Read AngleUnit)) → Css.angle_unit t ≡ w → Units y
+      → Units (cond (starts_with w (drop i s)) (Some (record { value = u; next = place (i + length w) })) y)
   unfolding angle_unit
   unit_tried w t u y e h =
       either (starts_with w (drop i s))
@@ -157,7 +154,13 @@ module _ (s : List ℕ) (i : ℕ) where
       unit_tried (ascii "deg") Css.deg W.Degrees _ refl
       (unit_tried (ascii "grad") Css.grad W.Gradians _ refl (unit_tried (ascii "rad") Css.rad W.Radians _ refl (unit_tried (ascii "turn") Css.turn W.Turns _ refl tt)))
 
-angle_fronts : (s : List ℕ) (n : Read.Number) (p q : Place) → NumberThere s 0 n p → AngleUnitThere s p.0 q → AngleFront s q
+-- or of none
+unit_after : (s : List ℕ) (p : Place) (x : Option (Read AngleUnit)) → Units s p.0 x → AngleUnitThere s p.0 (or_degrees p x).next
+unfolding angle_unit
+unit_after s p None v = record { tree = S.unmarked; text = refl }
+unit_after s p (Some u) v = v
+
+angle_fronts : (s : List ℕ) (n : Numbers.Number) (p q : Place) → NumberThere s 0 n p → AngleUnitThere s p.0 q → AngleFront s q
 unfolding angle_text
 angle_fronts s n p q t u =
     record {
@@ -167,28 +170,17 @@ angle_fronts s n p q t u =
       text = λ h. whole_text s n p t (angle_unit u.tree) q.0 u.text h;
     }
 
-angle_front : (s : List ℕ) → all_angles (λ a n q. AngleFront s q) (parse_angle s 0)
-unfolding parse_angle angle_unit
+angle_front : (s : List ℕ) → MatchResult (parse_angle s 0) (λ r. AngleFront s r.next) (λ _. T true)
+unfolding parse_angle
 angle_front s =
-    values_all (all_angles (λ a n q. AngleFront s q)) (λ n p. parse_number s 0 ≡ N.Value n p) (parse_number s 0) R.Refused _ (numbers_read (parse_number s 0)) (λ e. tt)
-    (λ n p e.
-    let t = number_there s 0 n p e in
-    units_all (all_angles (λ a n q. AngleFront s q)) (λ u q. AngleUnitThere s p.0 q) (parse_unit s p.0) _ _ (angle_units s p.0)
-    (angle_fronts s n p p t (record { tree = S.unmarked; text = refl })) (λ u q v. angle_fronts s n p q t v))
-
-abbrev AngleAnswers : List ℕ → AngleAnswer → Type 0
-AngleAnswers s (Ra.Value v n) = AngleShape s
-AngleAnswers s (Ra.Refused e) = T true
+    bind_known (λ r. AngleFront s r.next) (λ _. T true) (parse_number s 0) _ (λ x e. tt)
+    (λ r e. angle_fronts s r.value r.next _ (number_there s 0 r.value r.next e) (unit_after s r.next (parse_unit s r.next.0) (angle_units s r.next.0)))
 
 -- a text that is answered as an angle is one
-pub angle_shape : (s : List ℕ) (v : Angle) (n : Read.Number) → Angles.from_str s ≡ Ra.Value v n → AngleShape s
+pub angle_shape : (s : List ℕ) (v : Written Angle) → Angles.from_str s ≡ Ok v → AngleShape s
 unfolding Angles.from_str Angles.parse_whole
-angle_shape s v n e =
-    let w : AngleAnswers s (Angles.from_str s) =
-    text_edge (AngleAnswers s) s Ra.Refused _ (λ e h. tt)
-    (λ short. angles_all (AngleAnswers s) (λ a n p. AngleShape s) (Angles.parse_whole s) (λ e. Ra.Refused (refusal_of s e)) _
-    (angles_all (all_angles (λ a n p. AngleShape s)) (λ a n q. AngleFront s q) (parse_angle s 0) R.Refused _ (angle_front s) (λ e. tt)
-    (λ a n q f. either (ltb q.0 (length s)) (λ t. simp t tt)
-    (λ t. simp t (ended s q f (ltb-false q.0 (length s) t) short))))
-    (λ e. tt) (λ a n p t. t)) in
-    rw e at w
+angle_shape s v e =
+    let w = edge_whole s (Angles.parse_whole s) e in
+    let k = bind_ok (parse_angle s 0) _ w.1 in
+    let f = at_ok (λ r. AngleFront s r.next) (λ _. T true) (parse_angle s 0) k.0 (angle_front s) k.1.0 in
+    ended s k.0.next f (ltb-false k.0.next.0 (length s) (at_end (ltb k.0.next.0 (length s)) _ _ k.1.1)) w.0

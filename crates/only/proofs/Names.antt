@@ -4,25 +4,20 @@ use mathlib.Core.Bool.{true, false}
 use mathlib.Core.List.{List, [], ◌∷◌, ◌++◌}
 use mathlib.Core.Path.{◌≡◌, refl, sym, ap, ◌∙◌}
 use native.Mathlib.Omega.{arith}
-use borrow.Author.Tests.{ne_eqb, le-leb, lt-leb}
+use borrow.Author.Tests.{ne_eqb, le-leb, lt-leb, lt-ltb}
 use lib.Dec.{eqb, lit≤}
 use lib.ListN.{length, get_or, drop, length-map, length-drop}
 use Rattle.text_bytes.specs.Bytes.{within, is_space, is_ascii_ident}
-use Rattle.text_bytes.specs.Flow.{bind}
 use Rattle.text_bytes.specs.Scan.{run, scan}
 use Rattle.text_bytes.specs.Words.{ascii, starts_with}
 use Rattle.text_bytes.proofs.Ranges.{either, and_first, and_second}
 use Rattle.text_bytes.proofs.Wording.{begins_with, starts_first, word_byte}
-use Rattle.utf8.specs.Characters.{calc_char_pos_at}
 use Rattle.stream.specs.Faults.{unexpected_end, unexpected_data, invalid_value, invalid_char, consume_byte}
-use Rattle.stream.specs.declared.Consumed.TheVariants as K
-use Rattle.stream.specs.Refusals.{number_of, refusal_of, admit_place}
-use Rattle.stream.specs.declared.Admission.TheVariants.{Admitted}
+use Rattle.std.specs.Prelude.{Ok, Err, None}
+use Rattle.stream.specs.Refusals.{number_of, refusal_of, admit_place, reason_number}
 use Rattle.stream.specs.declared.Fault.{Fault}
 use Rattle.stream.specs.declared.Trouble.TheVariants as T
 use Rattle.filter_functions.specs.Filters.{plain_name, filter_name, argument_of, parse_next, after_none, parse_step}
-use Rattle.filter_functions.specs.declared.FilterRead.TheVariants as F
-use Rattle.filter_functions.specs.declared.StepRead.TheVariants as S
 use Rattle.standards.specs.CssValues3.{Blank, blank, blanks, space, unsigned, whole, absent, spelt, joined, Number}
 use Rattle.standards.specs.FilterEffects1.{brightness, contrast, grayscale, invert, opacity, saturate, sepia, simple_name, unmarked, CssLength, two, bare, Content, blur_default, simple_default, hue_rotate_default, drop_shadow, url, name}
 use Rattle.standards.specs.Rfc3629.{utf8_1, scalar}
@@ -31,7 +26,7 @@ use Rattle.standards.specs.Colors.{Colour, colour}
 use Rattle.standards.proofs.Cursors.{byte_here, past, blanks_past, blanks_scan, scan_on, inside, scanned_none, differs}
 use Rattle.standards.proofs.Runs.{every, run_map, no_space, blanks_end, blanks_alone}
 use Rattle.only.proofs.Cuts.{blank_of}
-use Rattle.only.specs.Only.{Opens, name_at, Refuses, NameByte, name_byte, word, NotNone, NoBlank, Stands}
+use Rattle.only.specs.Only.{Opens, name_at, position_at, Refuses, NameByte, name_byte, word, NotNone, NoBlank, Stands}
 use Rattle.only.proofs.Steps.{edge, refuses, Reads, refused_at}
 
 no_blank : (b : ℕ) → NoBlank b → is_space b ≡ false
@@ -39,8 +34,8 @@ no_blank b other = either (is_space b) (λ q. let k = blank_of b q in absurd (ot
 
 -- THEOREM. `none` with anything but white space after it is refused by 5
 pub none_alone : {s : List ℕ} {i : ℕ} (before after : List Blank) (c : ℕ) (rest : List ℕ) → NoBlank c
-    → Stands s i (blanks before ++ (ascii "none" ++ (blanks after ++ (c ∷ rest)))) → Refuses s i 5 0
-unfolding parse_step after_none bind starts_with refusal_of number_of
+    → Stands s i (blanks before ++ (ascii "none" ++ (blanks after ++ (c ∷ rest)))) → Refuses s i 5 None
+unfolding parse_step after_none starts_with refusal_of reason_number number_of
 none_alone {s} {i} before after c rest other o =
     let h = o.text in
     let sp : is_space c ≡ false = no_blank c other in
@@ -49,13 +44,13 @@ none_alone {s} {i} before after c rest other o =
     let e : drop start s ≡ ascii "none" ++ x = blanks_past s i before (ascii "none" ++ x) h in
     let f : drop (start + 4) s ≡ x = past s start (ascii "none") x e in
     let g : drop (start + 4 + length after) s ≡ c ∷ rest = blanks_past s (start + 4) after (c ∷ rest) f in
-    let p : parse_step s i ≡ S.Refused (invalid_value (start + 4 + length after)) =
+    let p : parse_step s i ≡ Err (invalid_value (start + 4 + length after)) =
     simp (
       blanks_scan s i before (ascii "none" ++ x) h refl,
       lt-leb (length s) start (inside s start (ascii "none" ++ x) e (omega arith)),
       e,
       blanks_scan s (start + 4) after (c ∷ rest) f sp,
-      lt-leb (length s) (start + 4 + length after) (inside s (start + 4 + length after) (c ∷ rest) g (omega arith)),
+      lt-ltb (start + 4 + length after) (length s) (inside s (start + 4 + length after) (c ∷ rest) g (omega arith)),
     ) in
     record { refusal = refusal_of s (invalid_value (start + 4 + length after)); answer = edge s i _ o.admitted p; numbered = refl; positioned = refl }
 
@@ -117,8 +112,8 @@ module _ (c : NameByte) (cs : List NameByte) (none : NotNone (word (c ∷ cs))) 
     after_word : drop (i + length before + length w) s ≡ y
     after_word = past s (i + length before) w y at_word
 
-    unopened : (at : ℕ) (f : Fault) → scan is_space s (i + length before + length w) ≡ at → consume_byte s at 40 ≡ K.Refused f → parse_step s i ≡ S.Refused f
-    unfolding parse_step parse_next bind
+    unopened : (at : ℕ) (f : Fault) → scan is_space s (i + length before + length w) ≡ at → consume_byte s at 40 ≡ Err f → parse_step s i ≡ Err f
+    unfolding parse_step parse_next
     unopened at f q k =
         simp (
           blanks_scan s i before (w ++ y) h w_unspaced,
@@ -133,7 +128,7 @@ module _ (c : NameByte) (cs : List NameByte) (none : NotNone (word (c ∷ cs))) 
 -- THEOREM. A word that is no function's name is refused by 6
 module _ {s : List ℕ} {i : ℕ} (c : NameByte) (cs : List NameByte) (held : List ℕ) (o : Opens s i (word (c ∷ cs)) held)
     (other : (f : Content Colour) → word (c ∷ cs) ≡ name colour f → ⊥) (none : NotNone (word (c ∷ cs))) where
-  unknown : (name at : ℕ) → argument_of (filter_name (word (c ∷ cs))) s name at ≡ F.Refused (unexpected_data s name)
+  unknown : (name at : ℕ) → argument_of (filter_name (word (c ∷ cs))) s name at ≡ Err (unexpected_data s name)
   unfolding filter_name plain_name name simple_name shadow_none url_none
   unknown n at =
       simp (
@@ -150,14 +145,14 @@ module _ {s : List ℕ} {i : ℕ} (c : NameByte) (cs : List NameByte) (held : Li
         differs (word (c ∷ cs)) (ascii "sepia") (λ e. other (simple_default sepia) e),
       )
 
-  pub unknown_name : Refuses s i 6 (calc_char_pos_at s (name_at o))
-  unfolding number_of
+  pub unknown_name : Refuses s i 6 (position_at s (name_at o))
+  unfolding reason_number number_of
   unknown_name = refuses s i T.UnexpectedData (name_at o) (name_at o) (length s) refl o.stands.admitted (refused_at o (w_reads c cs none) _ _ refl (unknown (name_at o) _))
 
 -- THEOREM. A name with no bracket after it is refused by 4 at the end of the text
 pub name_alone : {s : List ℕ} {i : ℕ} (before after : List Blank) (c : NameByte) (cs : List NameByte) → NotNone (word (c ∷ cs))
-    → Stands s i (blanks before ++ (word (c ∷ cs) ++ blanks after)) → Refuses s i 4 0
-unfolding consume_byte refusal_of number_of within
+    → Stands s i (blanks before ++ (word (c ∷ cs) ++ blanks after)) → Refuses s i 4 None
+unfolding consume_byte refusal_of reason_number number_of within
 name_alone {s} {i} before after c cs none o =
     let h = o.text in
     let y = blanks after in
@@ -166,17 +161,17 @@ name_alone {s} {i} before after c cs none o =
     let g : drop at s ≡ blanks after = after_word c cs none s i before y e h in
     let q : scan is_space s at ≡ at + length after = scan_on s at y g is_space (length after) (blanks_alone after) in
     let z : length s ≤ at + length after = omega (arith, length-drop at s, ap length g, length-map after blank) in
-    let p : parse_step s i ≡ S.Refused (unexpected_end s) = unopened c cs none s i before y e h (at + length after) (unexpected_end s) q (simp (le-leb (length s) (at + length after) z)) in
+    let p : parse_step s i ≡ Err (unexpected_end s) = unopened c cs none s i before y e h (at + length after) (unexpected_end s) q (simp (le-leb (length s) (at + length after) z)) in
     record { refusal = refusal_of s (unexpected_end s); answer = edge s i _ o.admitted p; numbered = refl; positioned = refl }
 
 -- a byte (b) that is no bracket (40), where one should be
 module _ (s : List ℕ) (at b : ℕ) (rest : List ℕ) (n : b ≡ 40 → ⊥) (h : drop at s ≡ b ∷ rest) where
-  wrong_byte : consume_byte s at 40 ≡ K.Refused (invalid_char at b 40)
+  wrong_byte : consume_byte s at 40 ≡ Err (invalid_char at b 40)
   unfolding consume_byte
   wrong_byte = simp (lt-leb (length s) at (inside s at (b ∷ rest) h (omega arith)), byte_here s at (b ∷ rest) h, ne_eqb b 40 n)
 
-char_refuses : (s : List ℕ) (i at b : ℕ) → admit_place s i ≡ Admitted → parse_step s i ≡ S.Refused (invalid_char at b 40) → Refuses s i 7 (calc_char_pos_at s at)
-unfolding refusal_of number_of
+char_refuses : (s : List ℕ) (i at b : ℕ) → admit_place s i ≡ Ok tt → parse_step s i ≡ Err (invalid_char at b 40) → Refuses s i 7 (position_at s at)
+unfolding refusal_of reason_number number_of
 char_refuses s i at b a h = record { refusal = refusal_of s (invalid_char at b 40); answer = edge s i (invalid_char at b 40) a h; numbered = refl; positioned = refl }
 
 -- white space, if there is any, ends a word
@@ -187,7 +182,7 @@ spaced_word (k ∷ after) b rest e = blanks_end is_ascii_ident refl refl refl re
 
 -- THEOREM. and by 7 at any other byte
 pub name_unopened : {s : List ℕ} {i : ℕ} (before after : List Blank) (c : NameByte) (cs : List NameByte) (b : ℕ) (rest : List ℕ) → NotNone (word (c ∷ cs)) → NoBlank b
-    → (after ≡ [] → is_ascii_ident b ≡ false) → (b ≡ 40 → ⊥) → Stands s i (blanks before ++ (word (c ∷ cs) ++ (blanks after ++ (b ∷ rest)))) → Refuses s i 7 (calc_char_pos_at s (i + length before + length (word (c ∷ cs)) + length after))
+    → (after ≡ [] → is_ascii_ident b ≡ false) → (b ≡ 40 → ⊥) → Stands s i (blanks before ++ (word (c ∷ cs) ++ (blanks after ++ (b ∷ rest)))) → Refuses s i 7 (position_at s (i + length before + length (word (c ∷ cs)) + length after))
 name_unopened {s} {i} before after c cs b rest none other end n o =
     let h = o.text in
     let y = blanks after ++ (b ∷ rest) in
@@ -204,15 +199,15 @@ no_none_there y e = either (starts_with (ascii "none") y) (λ q. let z : false �
 
 -- THEOREM. A byte that begins no name is refused by 7
 pub no_name : {s : List ℕ} {i : ℕ} (before : List Blank) (b : ℕ) (rest : List ℕ) → NoBlank b → is_ascii_ident b ≡ false → (b ≡ 40 → ⊥) → Stands s i (blanks before ++ (b ∷ rest))
-    → Refuses s i 7 (calc_char_pos_at s (i + length before))
-unfolding parse_step parse_next bind
+    → Refuses s i 7 (position_at s (i + length before))
+unfolding parse_step parse_next
 no_name {s} {i} before b rest other v n o =
     let h = o.text in
     let at = i + length before in
     let g : drop at s ≡ b ∷ rest = blanks_past s i before (b ∷ rest) h in
     let sp : is_space b ≡ false = no_blank b other in
     let z : starts_with (ascii "none") (b ∷ rest) ≡ false = no_none_there (b ∷ rest) v in
-    let p : parse_step s i ≡ S.Refused (invalid_char at b 40) =
+    let p : parse_step s i ≡ Err (invalid_char at b 40) =
     simp (
       blanks_scan s i before (b ∷ rest) h sp,
       lt-leb (length s) at (inside s at (b ∷ rest) g (omega arith)),

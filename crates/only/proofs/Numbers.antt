@@ -8,21 +8,23 @@ use borrow.Author.Tests.{leb-true, leb-false}
 use lib.Dec.{eqb, leb}
 use lib.ListN.{length, get_or, drop}
 use Rattle.text_bytes.specs.Bytes.{is_digit, is_space}
-use Rattle.text_bytes.specs.Flow.{bind}
 use Rattle.text_bytes.specs.Moves.{place}
 use Rattle.text_bytes.specs.Scan.{scan}
 use Rattle.text_bytes.specs.declared.Place.{Place}
 use Rattle.text_bytes.proofs.Ranges.{either, and_first, and_second}
 use Rattle.stream.specs.declared.Fault.{Fault}
 use Rattle.numbers.specs.Number.{starts_number, mantissa_at, exponent_at, scale_of, finished, number_from, parse_number}
-use Rattle.numbers.specs.declared.Number.{Number}
-use Rattle.numbers.specs.declared.NumberRead.TheVariants as N
-use Rattle.numbers.proofs.Values.{values_known, Judged, mantissa_of, exponent_of, number_values}
+use Rattle.numbers.specs.Moves.{Number}
+use Rattle.std.specs.Prelude.{Result, Ok, Err}
+use Rattle.stream.specs.declared.Read.{Read}
+use Rattle.stream.proofs.Binds.{at_ok}
+use Rattle.stream.proofs.Stretches.{LiesFrom}
+use Rattle.numbers.proofs.Values.{Judged, mantissa_of, exponent_of, number_holds}
 use Rattle.standards.specs.CssValues3 as Css
 use Rattle.standards.specs.CssValues3.{blank, blanks, sign, digits, exponent, absent, small, capital, number, joined, fraction_digits, power, falls, is_whole, is_absent, is_integer}
 use Rattle.standards.specs.Domain.{Near, InDomain}
-use Rattle.standards.specs.Answers.{Apart}
-use Rattle.standards.proofs.Cursors.{byte_here, past, blanks_past, scan_on}
+use Rattle.standards.specs.Answers.{Apart, read_on}
+use Rattle.standards.proofs.Cursors.{one_value, byte_here, past, blanks_past, scan_on}
 use Rattle.standards.proofs.Numbers.{mantissa_is, exponent_is, number_at, reach}
 use Rattle.only.specs.Only.{NumberThere}
 use Rattle.only.proofs.Cuts.{Cut, spaces}
@@ -37,11 +39,16 @@ near_of false e f n =
     (λ q. let k : e - f ≤ 22 = simp q at n in (omega (arith, k), omega (arith, leb-true f e q)))
     (λ q. let k : f - e ≤ 22 = simp q at n in (omega (arith, leb-false f e q), omega (arith, k)))
 
-none : {B : Type 0} {e : Fault} {n : Number} {p : Place} → N.Refused e ≡ N.Value n p → B
+none : {B : Type 0} {e : Fault} {n : Number} {p : Place} → Err e ≡ read_on n p → B
 none h = absurd (let z : ◌≡◌ {A = ℕ} 0 1 = cc h in omega arith)
 
-same_number : {n k : Number} {p q : Place} → N.Value n p ≡ N.Value k q → (n ≡ k) × (p ≡ q)
-same_number h = (cc, cc)
+-- what was read goes on at one place
+abbrev next_or : {A : Type 0} → Place → Result (Read A) Fault → Place
+next_or p (Ok r) = r.next
+next_or p (Err e) = p
+
+pub one_place : {A : Type 0} {a b : A} {p q : Place} → read_on a p ≡ read_on b q → p ≡ q
+one_place {A} {a} {b} {p} e = ap (λ r. next_or p r) e
 
 absent_none : (y : Css.Exponent) → is_absent y ≡ true → exponent y ≡ []
 unfolding exponent is_absent
@@ -50,13 +57,13 @@ absent_none (small g d ds) e = absurd (let z : ◌≡◌ {A = ℕ} 0 1 = cc in o
 absent_none (capital g d ds) e = absurd (let z : ◌≡◌ {A = ℕ} 0 1 = cc in omega arith)
 
 -- of a number that is read
-module _ (s : List ℕ) (i : ℕ) (n : Number) (p : Place) (h : parse_number s i ≡ N.Value n p) where
+module _ (s : List ℕ) (i : ℕ) (n : Number) (p : Place) (h : parse_number s i ≡ read_on n p) where
   -- what was judged of its parts
   judged : Judged (mantissa_of s i) (exponent_of s i)
-  judged = values_known (λ v q. Judged (mantissa_of s i) (exponent_of s i)) (parse_number s i) n p (number_values s i _ (λ l j. j)) h
+  judged = at_ok (λ _. Judged (mantissa_of s i) (exponent_of s i)) (LiesFrom s i) (parse_number s i) _ (number_holds s i (λ _. Judged (mantissa_of s i) (exponent_of s i)) (λ l j. j)) h
 
   exponent_ok : (exponent_of s i).ok ≡ true
-  unfolding parse_number bind number_from finished
+  unfolding parse_number number_from finished
   exponent_ok =
       let start = scan is_space s i in
       either (exponent_of s i).ok (λ e. e)
@@ -144,7 +151,7 @@ module _ (s : List ℕ) (i : ℕ) (n : Number) (p : Place) (h : parse_number s i
   -- THEOREM. What is read as a number is one
   pub number_there : NumberThere s i n p
   number_there =
-      let r = same_number (sym h ∙ number_at s i cut_here.taken tree x.rest domain apart text) in
+      let r = sym h ∙ number_at s i cut_here.taken tree x.rest domain apart text in
       record {
         before = cut_here.taken;
         tree = tree;
@@ -152,14 +159,14 @@ module _ (s : List ℕ) (i : ℕ) (n : Number) (p : Place) (h : parse_number s i
         text = text;
         domain = domain;
         apart = apart;
-        meant = r.0;
-        after = r.1;
+        meant = one_value r;
+        after = one_place r;
       }
 
 -- of a number that stands there
 module _ (s : List ℕ) (i : ℕ) (n : Number) (p : Place) (r : NumberThere s i n p) where
   -- THEOREM. It is read
-  pub there_read : parse_number s i ≡ N.Value n p
+  pub there_read : parse_number s i ≡ read_on n p
   there_read =
       number_at s i r.before r.tree r.rest r.domain r.apart r.text ∙ rw (← r.meant, ← r.after) refl
 

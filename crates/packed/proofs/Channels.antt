@@ -9,38 +9,38 @@ use borrow.Author.Tests.{ltb-true}
 use lib.Dec.{eqb, leb, ltb}
 use lib.Ieee.{Float, nan, inf, fin, up, down}
 use lib.ListN.{length, get_or}
+use Rattle.std.specs.Prelude.{Result, Ok, Err, MatchResult, ⊤, if◌then◌else◌}
 use Rattle.text_bytes.specs.Bytes.{within, is_space, is_hex_digit, is_ascii_ident}
-use Rattle.text_bytes.specs.Flow.{bind}
-use Rattle.stream.specs.Refusals.{refusal_of, admit_text, then_admitted}
+use Rattle.text_bytes.specs.Flow.{◌>>=◌}
 use Rattle.text_bytes.specs.Scan.{scan}
 use Rattle.text_bytes.specs.Words.{ascii, same, lowered, part, is_curr_byte_eq}
-use Rattle.stream.specs.declared.Admission.{Admission}
-use Rattle.stream.specs.declared.Admission.TheVariants as M
-use Rattle.text_bytes.specs.declared.Place.{Place}
 use Rattle.text_bytes.proofs.Ranges.{and_first, and_second, either, within_le}
-use Rattle.stream.proofs.Sames.{consume_all}
+use Rattle.stream.specs.Faults.{consume_byte, unexpected_data}
+use Rattle.stream.specs.Refusals.{admit_text, at_edge}
+use Rattle.stream.specs.declared.Fault.{Fault}
+use Rattle.stream.specs.declared.Read.{Read}
+use Rattle.stream.specs.declared.Refusal.{Refusal}
 use Rattle.floats.specs.Floats.{channel_of}
-use Rattle.numbers.specs.Moves.{then_number}
-use Rattle.numbers.specs.Number.{parse_list_number_or_percent}
-use Rattle.numbers.specs.declared.Number.{Number}
-use Rattle.numbers.proofs.Values.{number_all, list_number_all, list_percent_all}
+use Rattle.numbers.specs.Moves.{Number}
+use Rattle.numbers.specs.Number.{parse_number, parse_list_number, parse_list_number_or_percent, after_item}
 use Rattle.names.specs.Keywords.{Keyword, keywords}
 use Rattle.names.specs.Look.{look_up, named_of}
 use Rattle.color.specs.Answer.{from_str}
-use Rattle.color.specs.Color.{rgba, after_number, close_bracket, parse_alpha, rgb_marked, rgb_plain, rgb_rest, parse_rgb, hsl_rest, parse_hsl, is_rgb, is_hsl, named_read, named_color, parse_word, parse_color, parse_color_text}
-use Rattle.color.specs.Hex.{from_hex, short_hex, hex_pair, short_color, long_color, parse_hex}
+use Rattle.color.specs.Color.{close_bracket, parse_alpha, rgb_marked, rgb_plain, rgb_rest, parse_rgb, hsl_rest, parse_hsl, is_rgb, is_hsl, named_read, named_color, parse_word, parse_color, parse_color_text}
+use Rattle.color.specs.Hex.{rgba, color_read, from_hex, short_hex, hex_pair, short_color, long_color, parse_hex}
 use Rattle.color.specs.Hsl.{hsl_to_rgb, hsl_color}
-use Rattle.color.specs.Moves.{then_color}
 use Rattle.color.specs.declared.Color.{Color}
-use Rattle.color.specs.declared.ColorAnswer.TheVariants as A
-use Rattle.color.specs.declared.ColorRead.{ColorRead}
-use Rattle.color.specs.declared.ColorRead.TheVariants as C
-use Rattle.color.proofs.Values.{all_colors, colors_known, colors_all}
 use Rattle.packed.specs.Fits.{Bytes}
 use Rattle.packed.specs.Numbers.{channels}
 
-abbrev pub Read : ColorRead → Type 0
-Read x = all_colors (λ c p. Bytes c) x
+-- a colour that is read, if one is
+abbrev pub Low : {E : Type 0} → Result (Read Color) E → Type 0
+Low x = MatchResult x (λ r. Bytes r.value) (λ _. ⊤)
+
+-- whatever came before it
+step : {A E : Type 0} (r : Result A E) (f : A → Result (Read Color) E) → ((x : A) → Low (f x)) → Low (r >>= f)
+step (Ok a) f k = k a
+step (Err e) f k = tt
 
 channel_byte : (x : Float) → channel_of x < channels
 unfolding channel_of
@@ -69,8 +69,8 @@ module _ (s : List ℕ) where
   unfolding short_hex
   short_byte i = omega (arith, digit_low (get_or s i 0))
 
-  hex_bytes : (at : ℕ) → Read (parse_hex s at)
-  unfolding parse_hex long_color short_color bind
+  hex_bytes : (at : ℕ) → Low (parse_hex s at)
+  unfolding parse_hex long_color short_color
   hex_bytes at =
       let n = scan is_hex_digit s at - at in
       let long : (a : ℕ) → a < channels → Bytes (long_color s at a) = λ a h. record { red = pair_byte at; green = pair_byte (at + 2); blue = pair_byte (at + 4); alpha = h } in
@@ -80,63 +80,60 @@ module _ (s : List ℕ) where
       (λ f. either (eqb n 3) (λ e. simp (d, f, e) (short 255 (omega arith)))
       (λ g. either (eqb n 4) (λ e. simp (d, f, g, e) (short (short_hex s (at + 3)) (short_byte (at + 3)))) (λ e. simp (d, f, g, e) tt))))
 
-  close_bytes : (at : ℕ) (c : Color) → Bytes c → Read (close_bracket s at c)
-  unfolding close_bracket bind
-  close_bytes at c h = consume_all Read s (scan is_space s at) 41 C.Refused _ (λ e. tt) (λ e l. h)
+  close_bytes : (at : ℕ) (c : Color) → Bytes c → Low (close_bracket s at c)
+  unfolding close_bracket
+  close_bytes at c h = step (consume_byte s (scan is_space s at) 41) _ (λ p. h)
 
-  alpha_bytes : (at : ℕ) (c : Color) → Bytes c → Read (parse_alpha s at c)
-  unfolding parse_alpha bind
+  alpha_bytes : (at : ℕ) (c : Color) → Bytes c → Low (parse_alpha s at c)
+  unfolding parse_alpha
   alpha_bytes at c h =
       let i = scan is_space s at in
       either (is_curr_byte_eq s i 41) (λ e. simp e (close_bytes i c h))
-      (λ e. simp e (list_number_all Read s i C.Refused _ (λ f. tt)
-      (λ n p j k. close_bytes p.0 _ (record { red = h.red; green = h.green; blue = h.blue; alpha = channel_byte _ }))))
+      (λ e. simp e (step (parse_list_number s i) _
+      (λ r. close_bytes r.next.0 _ (record { red = h.red; green = h.green; blue = h.blue; alpha = channel_byte _ }))))
 
   -- two numbers or percents, and alpha
   percents_bytes : (at : ℕ) (c : Number → Number → Color) → ((g b : Number) → Bytes (c g b))
-      → Read (then_number C.Refused (parse_list_number_or_percent s at) (λ g p. then_number C.Refused (parse_list_number_or_percent s p.0) (λ b q. parse_alpha s q.0 (c g b))))
+      → Low (parse_list_number_or_percent s at >>= (λ (g : Read Number). parse_list_number_or_percent s g.next.0 >>= (λ (b : Read Number). parse_alpha s b.next.0 (c g.value b.value))))
   percents_bytes at c h =
-      list_percent_all Read s at C.Refused _ (λ e. tt)
-      (λ g p j k. list_percent_all Read s p.0 C.Refused _ (λ e. tt) (λ b q l m. alpha_bytes q.0 (c g b) (h g b)))
+      step (parse_list_number_or_percent s at) _
+      (λ g. step (parse_list_number_or_percent s g.next.0) _ (λ b. alpha_bytes b.next.0 (c g.value b.value) (h g.value b.value)))
 
-  marked_bytes : (at : ℕ) (n : Float) → Read (rgb_marked s at n)
-  unfolding rgb_marked bind
+  marked_bytes : (at : ℕ) (n : Float) → Low (rgb_marked s at n)
+  unfolding rgb_marked
   marked_bytes at n = percents_bytes at _ (λ g b. opaque _ _ _)
 
-  plain_bytes : (at : ℕ) (n : Float) → Read (rgb_plain s at n)
-  unfolding rgb_plain bind
+  plain_bytes : (at : ℕ) (n : Float) → Low (rgb_plain s at n)
+  unfolding rgb_plain
   plain_bytes at n =
-      list_number_all Read s at C.Refused _ (λ e. tt)
-      (λ g p j k. list_number_all Read s p.0 C.Refused _ (λ e. tt)
-      (λ b q l m. alpha_bytes q.0 _ (opaque _ _ _)))
+      step (parse_list_number s at) _
+      (λ g. step (parse_list_number s g.next.0) _ (λ b. alpha_bytes b.next.0 _ (opaque _ _ _)))
 
-  rgb_rest_bytes : (at : ℕ) (n : Float) → Read (rgb_rest s at n)
-  unfolding rgb_rest bind
+  rgb_rest_bytes : (at : ℕ) (n : Float) → Low (rgb_rest s at n)
+  unfolding rgb_rest
   rgb_rest_bytes at n =
-      either (is_curr_byte_eq s at 37) (λ e. simp e (marked_bytes (after_number s (at + 1)) n)) (λ e. simp e (plain_bytes (after_number s at) n))
+      either (is_curr_byte_eq s at 37) (λ e. simp e (marked_bytes (after_item s (at + 1)) n)) (λ e. simp e (plain_bytes (after_item s at) n))
 
-  rgb_bytes : (at : ℕ) → Read (parse_rgb s at)
+  rgb_bytes : (at : ℕ) → Low (parse_rgb s at)
   unfolding parse_rgb
   rgb_bytes at =
-      consume_all Read s at 40 C.Refused _ (λ e. tt)
-      (λ e l. number_all Read s (at + 1) C.Refused _ (λ f. tt) (λ n q j k. rgb_rest_bytes q.0 n.value))
+      step (consume_byte s at 40) _ (λ p. step (parse_number s p.0) _ (λ n. rgb_rest_bytes n.next.0 n.value.value))
 
-  hsl_rest_bytes : (at : ℕ) (hue : Float) → Read (hsl_rest s at hue)
-  unfolding hsl_rest hsl_color hsl_to_rgb bind
+  hsl_rest_bytes : (at : ℕ) (hue : Float) → Low (hsl_rest s at hue)
+  unfolding hsl_rest hsl_color hsl_to_rgb
   hsl_rest_bytes at hue = percents_bytes at _ (λ g b. opaque _ _ _)
 
-  hsl_bytes : (at : ℕ) → Read (parse_hsl s at)
+  hsl_bytes : (at : ℕ) → Low (parse_hsl s at)
   unfolding parse_hsl
   hsl_bytes at =
-      consume_all Read s at 40 C.Refused _ (λ e. tt)
-      (λ e l. list_number_all Read s (at + 1) C.Refused _ (λ f. tt) (λ n q j k. hsl_rest_bytes q.0 n.value))
+      step (consume_byte s at 40) _ (λ p. step (parse_list_number s p.0) _ (λ n. hsl_rest_bytes n.next.0 n.value.value))
 
 -- the table, computed once over the whole
 unfoldable low : List Keyword → Bool
 low [] = true
 low (e ∷ es) = ltb e.red channels && (ltb e.green channels && (ltb e.blue channels && low es))
 
-look_bytes : (es : List Keyword) (w : List ℕ) (end : ℕ) → low es ≡ true → Read (named_read (look_up es w) end)
+look_bytes : (es : List Keyword) (w : List ℕ) (end : ℕ) → low es ≡ true → Low (named_read (look_up es w) end)
 unfolding look_up low
 look_bytes [] w end h =
     either (same w (ascii "transparent")) (λ t. simp t (record { red = omega arith; green = omega arith; blue = omega arith; alpha = omega arith })) (λ t. simp t tt)
@@ -156,47 +153,47 @@ look_bytes (e ∷ es) w end h =
     either (same w e.name) (λ t. simp t k) (λ t. simp t (look_bytes es w end (and_second b (low es) j)))
 
 -- of a word as it is written, and with letter case ignored
-pub written_bytes : (w : List ℕ) (end : ℕ) → Read (named_read (look_up keywords w) end)
+pub written_bytes : (w : List ℕ) (end : ℕ) → Low (named_read (look_up keywords w) end)
 unfolding keywords low
 written_bytes w end = look_bytes keywords w end refl
 
-named_bytes : (w : List ℕ) (end : ℕ) → Read (named_color w end)
+named_bytes : (w : List ℕ) (end : ℕ) → Low (named_color w end)
 unfolding named_color named_of
 named_bytes w end = written_bytes (lowered w) end
 
 module _ (s : List ℕ) where
-  word_bytes : (at : ℕ) → Read (parse_word s at)
-  unfolding parse_word bind
+  word_bytes : (at : ℕ) → Low (parse_word s at)
+  unfolding parse_word
   word_bytes at =
       let end = scan is_ascii_ident s at in
       let w = part s at end in
       either (is_rgb w) (λ e. simp e (rgb_bytes s end))
       (λ d. either (is_hsl w) (λ e. simp (d, e) (hsl_bytes s end)) (λ e. simp (d, e) (named_bytes w end)))
 
-  pub color_bytes : (at : ℕ) → Read (parse_color s at)
-  unfolding parse_color bind
+  pub color_bytes : (at : ℕ) → Low (parse_color s at)
+  unfolding parse_color
   color_bytes at =
       let i = scan is_space s at in
       either (leb (length s) i) (λ e. simp e tt)
       (λ d. either (eqb (get_or s i 0) 35) (λ e. simp (d, e) (hex_bytes s (i + 1))) (λ e. simp (d, e) (word_bytes i)))
 
-  pub text_bytes : Read (parse_color_text s)
-  unfolding parse_color_text bind
-  text_bytes =
-      colors_all Read (λ c p. Bytes c) (parse_color s 0) C.Refused _ (color_bytes 0) (λ e. tt)
-      (λ c p h. either (ltb (scan is_space s p.0) (length s)) (λ e. simp e tt) (λ e. simp e h))
-
-text_known : (s : List ℕ) (c : Color) (p : Place) → parse_color_text s ≡ C.Value c p → Bytes c
-text_known s c p e = colors_known (λ d q. Bytes d) (parse_color_text s) c p (text_bytes s) e
+  pub text_bytes : Low (parse_color_text s)
+  unfolding parse_color_text
+  text_bytes = go (parse_color s 0) (color_bytes 0)
+    where
+      go : (x : Result (Read Color) Fault) → Low x
+          → Low (x >>= (λ r. if ltb (scan is_space s r.next.0) (length s) then Err (unexpected_data s (scan is_space s r.next.0)) else color_read r.value (length s)))
+      go (Ok r) h = either (ltb (scan is_space s r.next.0) (length s)) (λ e. simp e tt) (λ e. simp e h)
+      go (Err e) h = tt
 
 -- as a whole text
-pub answer_bytes : (s : List ℕ) (c : Color) → from_str s ≡ A.Value c → Bytes c
+pub answer_bytes : (s : List ℕ) (c : Color) → from_str s ≡ Ok c → Bytes c
 unfolding from_str
-answer_bytes s c = go (admit_text s) (parse_color_text s) refl
+answer_bytes s c = go (admit_text s) (parse_color_text s) (text_bytes s)
   where
-    go : (x : Admission) (r : ColorRead) → parse_color_text s ≡ r → then_admitted A.Refused x (then_color (λ e. A.Refused (refusal_of s e)) r (λ d p. A.Value d)) ≡ A.Value c → Bytes c
-    go M.Admitted (C.Value d p) e q =
-        let z : d ≡ c = cc in
-        rw z at (text_known s d p e)
-    go M.Admitted (C.Refused f) e q = let z : ◌≡◌ {A = ℕ} 0 1 = cc in absurd (omega arith)
-    go (M.Refused f) r e q = let z : ◌≡◌ {A = ℕ} 0 1 = cc in absurd (omega arith)
+    go : (x : Result (Unit {0}) Refusal) (r : Result (Read Color) Fault) → Low r → (x >>= (λ _. at_edge s r >>= (λ (d : Read Color). Ok d.value))) ≡ Ok c → Bytes c
+    go (Ok u) (Ok d) h q =
+        let z : d.value ≡ c = cc in
+        rw z at h
+    go (Ok u) (Err f) h q = cc
+    go (Err f) r h q = cc

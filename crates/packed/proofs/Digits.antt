@@ -4,6 +4,7 @@ use mathlib.Core.Bool.{cond}
 use mathlib.Core.Path.{◌≡◌}
 use native.Mathlib.Omega.{arith}
 use lib.Dec.{eqb}
+use Rattle.std.specs.Prelude.{Option, Some, None}
 use Rattle.text_bytes.specs.declared.Part.{Part}
 use Rattle.color.specs.declared.Color.{Color}
 use Rattle.paint.specs.declared.Paint.{Paint}
@@ -63,10 +64,10 @@ module _ (s l k n : ℕ) (p : s < places) (q : l < places) (r : k < fallback_kin
   tint_back = omega arith
 
 -- its paint is what the parts tell
-module _ (l : Part) (f : PaintFallback) (h : LinkFits l f) where
+module _ (l : Part) (f : Option PaintFallback) (h : LinkFits l f) where
   -- k is the fallback's kind, n its colour's number
   pub link_back : (k n : ℕ) → k < fallback_kinds → fallback_number f ≡ k * fallbacks + n * colors
-      → cond (eqb k 0) F.Absent (cond (eqb k 1) F.None (cond (eqb k 2) F.CurrentColor (F.Color (number_color n)))) ≡ f
+      → cond (eqb k 0) None (cond (eqb k 1) (Some F.None) (cond (eqb k 2) (Some F.CurrentColor) (Some (F.Color (number_color n))))) ≡ f
       → decoded_paint (paint_number (P.FuncIRI l f)) ≡ P.FuncIRI l f
   unfolding decoded_paint decoded_fallback paint_number
   link_back k n r e d =
@@ -95,12 +96,12 @@ paint_some (P.Color c) = omega arith
 paint_some (P.FuncIRI l f) = omega arith
 
 -- a paint's number is below no_paint
-fallback_below : (f : PaintFallback) → FallbackFits f → fallback_number f + fallbacks ≤ no_paint
+fallback_below : (f : Option PaintFallback) → FallbackFits f → fallback_number f + fallbacks ≤ no_paint
 unfolding fallback_number
-fallback_below F.Absent h = omega arith
-fallback_below F.None h = omega arith
-fallback_below F.CurrentColor h = omega arith
-fallback_below (F.Color c) h = omega (arith, color_below c h)
+fallback_below None h = omega arith
+fallback_below (Some F.None) h = omega arith
+fallback_below (Some F.CurrentColor) h = omega arith
+fallback_below (Some (F.Color c)) h = omega (arith, color_below c h)
 
 pub paint_below : (v : Paint) → Fits v → paint_number v < no_paint
 unfolding paint_number

@@ -1,4 +1,4 @@
-pub mod Steps
+pub mod Four
 pub mod Digits
 pub mod Channels
 pub mod Readings

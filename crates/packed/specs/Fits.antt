@@ -1,5 +1,5 @@
 -- Which values come back from their numbers: those whose channels are bytes, and whose link starts and is long below `places`.
-use Rattle.std.specs.Prelude.{◌<◌, true, T}
+use Rattle.std.specs.Prelude.{◌<◌, true, T, Option, Some, None}
 use Rattle.text_bytes.specs.declared.Part.{Part}
 use Rattle.color.specs.declared.Color.{Color}
 use Rattle.paint.specs.declared.Paint.{Paint}
@@ -14,13 +14,13 @@ pub record Bytes (c : Color) : Type 0 where
   pub blue : c.blue < channels
   pub alpha : c.alpha < channels
 
-abbrev pub FallbackFits : PaintFallback → Type 0
-FallbackFits (F.Color c) = Bytes c
-FallbackFits F.Absent = T true
-FallbackFits F.None = T true
-FallbackFits F.CurrentColor = T true
+abbrev pub FallbackFits : Option PaintFallback → Type 0
+FallbackFits (Some (F.Color c)) = Bytes c
+FallbackFits None = T true
+FallbackFits (Some F.None) = T true
+FallbackFits (Some F.CurrentColor) = T true
 
-pub record LinkFits (link : Part) (f : PaintFallback) : Type 0 where
+pub record LinkFits (link : Part) (f : Option PaintFallback) : Type 0 where
   pub start : link.start.0 < places
   pub len : link.len < places
   pub fallback : FallbackFits f

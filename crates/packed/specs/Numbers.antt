@@ -1,14 +1,11 @@
 -- A value as one number of 63 bits: from bit 0 its kind as in the paper's record of a paint (1 `none`, 2 `inherit`, 3 `currentColor`, 4 `context-fill`, 5 `context-stroke`, 6 a colour, 7 a link), from bit 3 the link's start, from bit 16 its length, from bit 29 its fallback (0 absent, 1 `none`, 2 `currentColor`, 3 a colour), from bit 31 the colour. 0 is no value's number.
-use Rattle.std.specs.Prelude.{ℕ, ◌+◌, ◌*◌, ◌/◌, ◌%◌, cond, leb, eqb}
+use Rattle.std.specs.Prelude.{ℕ, ◌+◌, ◌*◌, ◌/◌, ◌%◌, cond, leb, eqb, Option, Some, None, Result, Ok, Err}
 use Rattle.text_bytes.specs.declared.Part.{Part}
+use Rattle.stream.specs.Refusals.{reason_number}
 use Rattle.stream.specs.declared.Refusal.{Refusal}
 use Rattle.color.specs.declared.Color.{Color}
-use Rattle.color.specs.declared.ColorAnswer.{ColorAnswer}
-use Rattle.color.specs.declared.ColorAnswer.TheVariants as C
 use Rattle.paint.specs.declared.Paint.{Paint}
 use Rattle.paint.specs.declared.Paint.TheVariants as P
-use Rattle.paint.specs.declared.PaintAnswer.{PaintAnswer}
-use Rattle.paint.specs.declared.PaintAnswer.TheVariants as A
 use Rattle.paint.specs.declared.PaintFallback.{PaintFallback}
 use Rattle.paint.specs.declared.PaintFallback.TheVariants as F
 
@@ -64,11 +61,11 @@ unfoldable pub number_color : ℕ → Color
 number_color v = record { red = v % channels; green = v / greens % channels; blue = v / blues % channels; alpha = v / alphas % channels }
 
 -- a fallback's bits
-unfoldable pub fallback_number : PaintFallback → ℕ
-fallback_number F.Absent = 0
-fallback_number F.None = 1 * fallbacks
-fallback_number F.CurrentColor = 2 * fallbacks
-fallback_number (F.Color c) = 3 * fallbacks + color_number c * colors
+unfoldable pub fallback_number : Option PaintFallback → ℕ
+fallback_number None = 0
+fallback_number (Some F.None) = 1 * fallbacks
+fallback_number (Some F.CurrentColor) = 2 * fallbacks
+fallback_number (Some (F.Color c)) = 3 * fallbacks + color_number c * colors
 
 -- a paint, whose link's places count from the lent text
 unfoldable pub paint_number : Paint → ℕ
@@ -81,11 +78,11 @@ paint_number (P.Color c) = 6 + color_number c * colors
 paint_number (P.FuncIRI link f) = 7 + (link.start.0 * starts + (link.len * lens + fallback_number f))
 
 -- the fallback that a value's number tells
-unfoldable pub decoded_fallback : ℕ → PaintFallback
+unfoldable pub decoded_fallback : ℕ → Option PaintFallback
 decoded_fallback v =
-    cond (eqb (v / fallbacks % fallback_kinds) 0) F.Absent
-    (cond (eqb (v / fallbacks % fallback_kinds) 1) F.None
-    (cond (eqb (v / fallbacks % fallback_kinds) 2) F.CurrentColor (F.Color (number_color (v / colors)))))
+    cond (eqb (v / fallbacks % fallback_kinds) 0) None
+    (cond (eqb (v / fallbacks % fallback_kinds) 1) (Some F.None)
+    (cond (eqb (v / fallbacks % fallback_kinds) 2) (Some F.CurrentColor) (Some (F.Color (number_color (v / colors))))))
 
 -- the link
 abbrev pub decoded_link : ℕ → Part
@@ -102,28 +99,28 @@ decoded_paint v =
     (cond (eqb (v % kinds) 6) (P.Color (number_color (v / colors))) (P.FuncIRI (decoded_link v) (decoded_fallback v)))))))
 
 -- an answer's number: its value's, 0 for a refusal. A colour's is that of a paint in this colour
-unfoldable pub color_answer_number : ColorAnswer → ℕ
-color_answer_number (C.Value c) = paint_number (P.Color c)
-color_answer_number (C.Refused e) = 0
+unfoldable pub color_answer_number : Result Color Refusal → ℕ
+color_answer_number (Ok c) = paint_number (P.Color c)
+color_answer_number (Err e) = 0
 
-unfoldable pub paint_answer_number : PaintAnswer → ℕ
-paint_answer_number (A.Value p) = paint_number p
-paint_answer_number (A.Refused e) = 0
+unfoldable pub paint_answer_number : Result Paint Refusal → ℕ
+paint_answer_number (Ok p) = paint_number p
+paint_answer_number (Err e) = 0
 
 -- where a refusal's stretch starts in the text that is read: 1 to 3 have none there
 unfoldable pub stretch_start : Refusal → ℕ
-stretch_start e = cond (leb e.number 3) 0 e.from.0
+stretch_start e = cond (leb (reason_number e.reason) 3) 0 e.from.0
 
 -- a refusal: its own number, and where its stretch starts
 abbrev pub refusal_number : Refusal → ℕ
-refusal_number e = e.number * places + stretch_start e
+refusal_number e = reason_number e.reason * places + stretch_start e
 
 -- a colour's own number, without a kind; for a refusal, no_color and the refusal's
-unfoldable pub color_or : ColorAnswer → ℕ
-color_or (C.Value c) = color_number c
-color_or (C.Refused e) = no_color + refusal_number e
+unfoldable pub color_or : Result Color Refusal → ℕ
+color_or (Ok c) = color_number c
+color_or (Err e) = no_color + refusal_number e
 
 -- a paint's number, or no_paint and the refusal's
-unfoldable pub paint_or : PaintAnswer → ℕ
-paint_or (A.Value p) = paint_number p
-paint_or (A.Refused e) = no_paint + refusal_number e
+unfoldable pub paint_or : Result Paint Refusal → ℕ
+paint_or (Ok p) = paint_number p
+paint_or (Err e) = no_paint + refusal_number e

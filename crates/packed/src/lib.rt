@@ -1,4 +1,4 @@
-// A value as one number, which comes back in a register. A text has at most 4,096 bytes, so that a link's start and length take 13 bits each.
+// A value as one number, which C takes in a register. A text has at most 4,096 bytes, so that a link's start and length take 13 bits each.
 #![tactic(auto)]
 
 ghost use Rattle.std.specs.Prelude.{◌≡◌, ◌*◌, ◌<◌};
@@ -18,13 +18,6 @@ pub const NO_COLOR: u64 = 0x1_0000_0000;
 // No paint's number: the first number after them.
 pub const NO_PAINT: u64 = 0x8000_0000_0000_0000;
 
-// Where the bits of a channel begin, above those of red.
-const GREEN: u64 = 0x100;
-
-const BLUE: u64 = 0x1_0000;
-
-const ALPHA: u64 = 0x100_0000;
-
 // Where the bits of a number's parts begin, above the three of its kind.
 pub const START: u64 = 0x8;
 
@@ -37,15 +30,17 @@ pub const COLOR: u64 = 0x8000_0000;
 // How many starts and lengths there are.
 pub const PLACES: u64 = 0x2000;
 
+// No `From`, here and below: a colour, a paint, a refusal and u64 are other crates' types.
+#[tactic(auto, using(crate::proofs::Four::bytes_number))]
 pub fn color_number(c: Color) -> u64
     ensures value { result ≡ color_number c }
     ensures upper_bound { result < no_color }
 {
-    (c.red as u64)
-        + ((c.green as u64) * GREEN + ((c.blue as u64) * BLUE + (c.alpha as u64) * ALPHA))
+    u64::from(u32::from_le_bytes([c.red, c.green, c.blue, c.alpha]))
 }
 
 // The number of a paint in a number's colour.
+#[tactic(auto, using(crate::proofs::Decoding::painted_is))]
 pub fn painted(v: u64) -> u64
     requires { v < no_color }
     ensures { result ≡ paint_number (Paint.Color (number_color v)) }
@@ -53,29 +48,33 @@ pub fn painted(v: u64) -> u64
     6 + v * COLOR
 }
 
+#[tactic(auto, unfolding(crate::specs::Numbers::number_color))]
 pub fn number_color(v: u64) -> Color
     ensures { result ≡ number_color v }
 {
+    let [red, green, blue, alpha, ..] = v.to_le_bytes();
     Color {
-        red: (v % 256) as u8,
-        green: (v / GREEN % 256) as u8,
-        blue: (v / BLUE % 256) as u8,
-        alpha: (v / ALPHA % 256) as u8,
+        red,
+        green,
+        blue,
+        alpha,
     }
 }
 
-fn fallback_number(fallback: PaintFallback) -> u64
+#[tactic(auto, unfolding(crate::specs::Numbers::fallback_number))]
+fn fallback_number(fallback: Option<PaintFallback>) -> u64
     ensures value { result ≡ fallback_number fallback }
     ensures upper_bound { result < no_paint }
 {
     match fallback {
-        PaintFallback::Absent => 0,
-        PaintFallback::None => FALLBACK,
-        PaintFallback::CurrentColor => 2 * FALLBACK,
-        PaintFallback::Color(color) => 3 * FALLBACK + color_number(color) * COLOR,
+        None => 0,
+        Some(PaintFallback::None) => FALLBACK,
+        Some(PaintFallback::CurrentColor) => 2 * FALLBACK,
+        Some(PaintFallback::Color(color)) => 3 * FALLBACK + color_number(color) * COLOR,
     }
 }
 
+#[tactic(auto, unfolding(crate::specs::Numbers::paint_number, paint::specs::Moves::link_start, crate::specs::Links::link_len))]
 pub fn paint_number(paint: Paint) -> u64
     requires paint_bound { link_start paint < places }
     requires paint_bound_2 { link_len paint < places }
@@ -104,17 +103,19 @@ fn number_link(v: u64) -> Part
     }
 }
 
-fn number_fallback(v: u64) -> PaintFallback
+#[tactic(auto, unfolding(crate::specs::Numbers::decoded_fallback))]
+fn number_fallback(v: u64) -> Option<PaintFallback>
     ensures { result ≡ decoded_fallback v }
 {
     match v / FALLBACK % 4 {
-        0 => PaintFallback::Absent,
-        1 => PaintFallback::None,
-        2 => PaintFallback::CurrentColor,
-        _ => PaintFallback::Color(number_color(v / COLOR)),
+        0 => None,
+        1 => Some(PaintFallback::None),
+        2 => Some(PaintFallback::CurrentColor),
+        _ => Some(PaintFallback::Color(number_color(v / COLOR))),
     }
 }
 
+#[tactic(auto, unfolding(crate::specs::Numbers::decoded_paint))]
 pub fn number_paint(v: u64) -> Paint
     ensures { result ≡ decoded_paint v }
 {
@@ -130,16 +131,15 @@ pub fn number_paint(v: u64) -> Paint
 }
 
 // A refusal, told in the place of a colour or a paint: its own number, and where its stretch starts.
+#[tactic(auto, unfolding(crate::specs::Numbers::stretch_start), using(crate::proofs::Decoding::number_small))]
 pub fn refusal_number(e: Refusal) -> u64
-    requires number_bound { e.number < 32 }
     requires from_lt_places { e.from.0 < places }
     ensures value { result ≡ refusal_number e }
     ensures upper_bound { result < 32 * places }
 {
-    let number = (e.number as u64) * PLACES;
-    if e.number <= 3 {
-        return number;
+    let number = e.reason.number();
+    if number <= 3 {
+        return (number as u64) * PLACES;
     }
-    let from = e.from;
-    number + from.0 as u64
+    (number as u64) * PLACES + e.from.0 as u64
 }

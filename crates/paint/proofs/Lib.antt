@@ -1,6 +1,5 @@
-pub mod Bases
+pub mod Values
+pub mod Trims
 pub mod Stretches
-pub mod Inside
-pub mod Steps
 pub mod Swallowed
 pub mod Worked

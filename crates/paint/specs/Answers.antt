@@ -1,22 +1,34 @@
 -- What the outside call answers.
-use Rattle.std.specs.Prelude.{ℕ, List, drop}
+use Rattle.std.specs.Prelude.{ℕ, List, drop, Result, Ok, Err}
+use Rattle.text_bytes.specs.Flow.{◌>>=◌}
 use Rattle.utf8.specs.Blanks.{trim_start, trim_of}
-use Rattle.text_bytes.specs.Flow.{bind}
-use Rattle.stream.specs.Refusals.{refusal_of, admit_text, then_admitted}
-use Rattle.paint.specs.Moves.{move_paint, then_paint_read}
+use Rattle.stream.specs.Refusals.{refusal_of, admit_text}
+use Rattle.stream.specs.declared.Refusal.{Refusal}
+use Rattle.paint.specs.Moves.{move_paint}
 use Rattle.paint.specs.Reading.{parse_paint}
-use Rattle.paint.specs.declared.PaintAnswer.{PaintAnswer}
-use Rattle.paint.specs.declared.PaintAnswer.TheVariants as A
+use Rattle.paint.specs.declared.Paint.{Paint}
+use Rattle.paint.specs.declared.PaintFault.{PaintFault}
 
--- "Paint trims"; a fault's places count in the bytes from its base on
-unfoldable pub from_str : List ℕ → PaintAnswer
-from_str s =
-    then_admitted A.Refused (admit_text s)
-    (bind (trim_of s) (λ t.
-    then_paint_read (λ e b. A.Refused (refusal_of (drop b.0 t) e)) (parse_paint t) (λ v. A.Value (move_paint (trim_start s) v))))
+-- a fault's places count in the bytes from its base on
+abbrev pub told_in : List ℕ → Result Paint PaintFault → Result Paint Refusal
+told_in t (Ok v) = Ok v
+told_in t (Err e) = Err (refusal_of (drop e.base.0 t) e.fault)
 
--- The text in which a refusal's position and stretch count (document 02, P2): "In a paint they count from the trimmed text, in a fallback from the fallback". 1 and 2 speak of the lent text
+unfoldable pub parse_trimmed : List ℕ → Result Paint Refusal
+parse_trimmed t = told_in t (parse_paint t)
+
+-- "Paint trims"
+unfoldable pub from_str : List ℕ → Result Paint Refusal
+from_str s = do
+  _ ← admit_text s
+  paint ← parse_trimmed (trim_of s)
+  Ok (move_paint (trim_start s) paint)
+
+abbrev pub hand : List ℕ → List ℕ → Result (Unit {0}) Refusal → Result Paint PaintFault → List ℕ
+hand s t (Err e) r = s
+hand s t (Ok u) (Err e) = drop e.base.0 t
+hand s t (Ok u) (Ok v) = t
+
+-- The text in which a refusal's position and stretch count: "In a paint they count from the trimmed text, in a fallback from the fallback". 1 and 2 speak of the lent text
 unfoldable pub at_hand : List ℕ → List ℕ
-at_hand s =
-    then_admitted (λ e. s) (admit_text s)
-    (bind (trim_of s) (λ t. then_paint_read (λ e b. drop b.0 t) (parse_paint t) (λ v. t)))
+at_hand s = hand s (trim_of s) (admit_text s) (parse_paint (trim_of s))

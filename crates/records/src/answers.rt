@@ -1,139 +1,150 @@
 // The record of each answer but a list's step.
-ghost use Rattle.std.specs.Prelude.{◌≡◌, []};
+ghost use Rattle.std.specs.Prelude.{◌≡◌, [], None};
+ghost use Rattle.stream.specs.Paper.{paper_refusal};
 ghost use Rattle.paint.specs.declared.Paint.TheVariants as Paint;
-ghost use Rattle.paint.specs.declared.PaintFallback.TheVariants as PaintFallback;
 ghost use Rattle.records.specs.Records.{row, color_record, length_record, angle_record, link_record, paint_row, paint_record, inherited_record};
 
 use crate::{entries, written};
-use angle::AngleAnswer;
-use color::ColorAnswer;
-use funciri::LinkAnswer;
-use inherit::Inheritance;
-use length::LengthAnswer;
-use paint::{Paint, PaintAnswer, PaintFallback};
+use angle::Angle;
+use color::Color;
+use inherit::{Chosen, WhoseRefusal};
+use length::Length;
+use numbers::Written;
+use paint::{Paint, PaintFallback};
 use stream::Refusal;
 use text_bytes::{Part, Place};
 
 pub fn refused(out: &mut [u64; 24], e: Refusal)
-    ensures { out.new ≡ row e 0 0 [] }
+    ensures { out.new ≡ row (paper_refusal e) 0 0 [] }
 {
-    written::refused(out, 0, e, 0, Place(0));
+    written::refused(out, e, 0, Place(0));
 }
 
-pub fn write_color(out: &mut [u64; 24], answer: ColorAnswer)
+#[tactic(auto, using(crate::proofs::Wholes::color_refused, crate::proofs::Wholes::color_value))]
+pub fn write_color(out: &mut [u64; 24], answer: Result<Color, Refusal>)
     ensures { out.new ≡ color_record answer }
 {
     match answer {
-        ColorAnswer::Refused(e) => refused(out, e),
-        ColorAnswer::Value(c) => {
-            written::one(out, 0, Place(0), 0);
-            written::color(out, 9, c);
-        }
+        Err(e) => refused(out, e),
+        Ok(c) => written::found(
+            out,
+            Place(0),
+            [c.red as u64, c.green as u64, c.blue as u64, c.alpha as u64],
+        ),
     }
 }
 
-pub fn write_length(out: &mut [u64; 24], answer: LengthAnswer)
+#[tactic(auto, using(crate::proofs::Wholes::length_refused, crate::proofs::Wholes::length_value))]
+pub fn write_length(out: &mut [u64; 24], answer: Result<Written<Length>, Refusal>)
     ensures { out.new ≡ length_record answer }
 {
     match answer {
-        LengthAnswer::Refused(e) => refused(out, e),
-        LengthAnswer::Value(l, n) => {
-            let unit = l.unit;
-            let end = n.end;
-            let bits = entries::bits_of(l.number);
-            let unit = entries::length_unit(unit);
-            written::three(out, 0, Place(0), bits, unit, entries::bit(n.whole));
-            out[12] = end.0 as u64;
+        Err(e) => refused(out, e),
+        Ok(w) => {
+            let bits = entries::bits_of(w.value.number);
+            let unit = entries::length_unit(w.value.unit);
+            written::found(
+                out,
+                Place(0),
+                [bits, unit, u64::from(w.whole), w.end.0 as u64],
+            );
         }
     }
 }
 
-pub fn write_angle(out: &mut [u64; 24], answer: AngleAnswer)
+#[tactic(auto, using(crate::proofs::Wholes::angle_refused, crate::proofs::Wholes::angle_value))]
+pub fn write_angle(out: &mut [u64; 24], answer: Result<Written<Angle>, Refusal>)
     ensures { out.new ≡ angle_record answer }
 {
     match answer {
-        AngleAnswer::Refused(e) => refused(out, e),
-        AngleAnswer::Value(a, n) => {
-            let unit = a.unit;
-            let end = n.end;
+        Err(e) => refused(out, e),
+        Ok(w) => {
+            let a = w.value;
             let bits = entries::bits_of(a.number);
+            let unit = entries::angle_unit(a.unit);
             let degrees = entries::bits_of(a.to_degrees());
-            written::three(out, 0, Place(0), bits, entries::angle_unit(unit), degrees);
-            out[12] = entries::bit(n.whole);
-            out[13] = end.0 as u64;
+            written::found(
+                out,
+                Place(0),
+                [bits, unit, degrees, u64::from(w.whole), w.end.0 as u64],
+            );
         }
     }
 }
 
-pub fn write_link(out: &mut [u64; 24], answer: LinkAnswer)
+#[tactic(auto, using(crate::proofs::Wholes::link_refused, crate::proofs::Wholes::link_value))]
+pub fn write_link(out: &mut [u64; 24], answer: Result<Part, Refusal>)
     ensures { out.new ≡ link_record answer }
 {
     match answer {
-        LinkAnswer::Refused(e) => refused(out, e),
-        LinkAnswer::Link(link) => {
-            let start = link.start;
-            written::two(out, 0, Place(0), start.0 as u64, link.len as u64);
-        }
+        Err(e) => refused(out, e),
+        Ok(link) => written::found(out, Place(0), [link.start.0 as u64, link.len as u64]),
     }
 }
 
 // The fallback of a link that is written.
-fn fallback(out: &mut [u64; 24], link: Part, f: PaintFallback)
-    requires { out.old ≡ paint_row (Paint.FuncIRI link PaintFallback.Absent) }
+#[tactic(auto, using(crate::proofs::Wholes::fallback_none, crate::proofs::Wholes::fallback_current, crate::proofs::Wholes::fallback_color))]
+fn fallback(out: &mut [u64; 24], link: Part, f: Option<PaintFallback>)
+    requires { out.old ≡ paint_row (Paint.FuncIRI link None) }
     ensures { out.new ≡ paint_row (Paint.FuncIRI link f) }
 {
     match f {
-        PaintFallback::Absent => {}
-        PaintFallback::None => out[12] = 1,
-        PaintFallback::CurrentColor => out[12] = 2,
-        PaintFallback::Color(c) => {
+        None => {}
+        Some(PaintFallback::None) => out[12] = 1,
+        Some(PaintFallback::CurrentColor) => out[12] = 2,
+        Some(PaintFallback::Color(c)) => {
             written::color(out, 13, c);
             out[12] = 3;
         }
     }
 }
 
-pub fn write_paint(out: &mut [u64; 24], answer: PaintAnswer)
+#[tactic(auto, using(crate::proofs::Wholes::paint_refused, crate::proofs::Wholes::paint_value))]
+pub fn write_paint(out: &mut [u64; 24], answer: Result<Paint, Refusal>)
     ensures { out.new ≡ paint_record answer }
 {
     match answer {
-        PaintAnswer::Refused(e) => refused(out, e),
-        PaintAnswer::Value(paint) => match paint {
-            Paint::None => written::one(out, 0, Place(0), 1),
-            Paint::Inherit => written::one(out, 0, Place(0), 2),
-            Paint::CurrentColor => written::one(out, 0, Place(0), 3),
-            Paint::ContextFill => written::one(out, 0, Place(0), 4),
-            Paint::ContextStroke => written::one(out, 0, Place(0), 5),
-            Paint::Color(c) => {
-                written::one(out, 0, Place(0), 6);
-                written::color(out, 13, c);
-            }
-            Paint::FuncIRI(link, f) => {
-                let start = link.start;
-                written::three(out, 0, Place(0), 7, start.0 as u64, link.len as u64);
-                fallback(out, link, f);
-            }
-        },
+        Err(e) => refused(out, e),
+        Ok(paint) => write_paint_value(out, paint),
     }
 }
 
-// In the place of whose text it is, where neither tells.
-const HIGHER: u64 = 3;
+#[tactic(auto, using(crate::proofs::Wholes::paint_none, crate::proofs::Wholes::paint_inherit, crate::proofs::Wholes::paint_current, crate::proofs::Wholes::paint_context_fill, crate::proofs::Wholes::paint_context_stroke, crate::proofs::Wholes::paint_color, crate::proofs::Wholes::paint_link))]
+fn write_paint_value(out: &mut [u64; 24], paint: Paint)
+    ensures { out.new ≡ paint_row paint }
+{
+    match paint {
+        Paint::None => written::found(out, Place(0), [1]),
+        Paint::Inherit => written::found(out, Place(0), [2]),
+        Paint::CurrentColor => written::found(out, Place(0), [3]),
+        Paint::ContextFill => written::found(out, Place(0), [4]),
+        Paint::ContextStroke => written::found(out, Place(0), [5]),
+        Paint::Color(c) => {
+            written::found(out, Place(0), [6]);
+            written::color(out, 13, c);
+        }
+        Paint::FuncIRI(link, f) => {
+            written::found(out, Place(0), [7, link.start.0 as u64, link.len as u64]);
+            fallback(out, link, f);
+        }
+    }
+}
 
 // Whose text it is stands in a refusal's record, too.
-pub fn write_inherited(out: &mut [u64; 24], answer: Inheritance)
+#[tactic(auto, using(crate::proofs::Wholes::inherited_refused, crate::proofs::Wholes::inherited_higher, crate::proofs::Wholes::inherited_chosen))]
+pub fn write_inherited(out: &mut [u64; 24], answer: Result<Option<Chosen>, WhoseRefusal>)
     ensures { out.new ≡ inherited_record answer }
 {
     match answer {
-        Inheritance::Refused(whose, e) => {
-            refused(out, e);
-            out[9] = entries::whose_number(whose);
+        Err(e) => {
+            refused(out, e.refusal);
+            out[9] = e.whose.number() as u64;
         }
-        Inheritance::Chosen(whose, part) => {
-            let start = part.start;
-            let number = entries::whose_number(whose);
-            written::three(out, 0, Place(0), number, start.0 as u64, part.len as u64);
+        Ok(None) => written::found(out, Place(0), [3]),
+        Ok(Some(a)) => {
+            let whose = a.whose.number() as u64;
+            let part = a.part;
+            written::found(out, Place(0), [whose, part.start.0 as u64, part.len as u64]);
         }
-        Inheritance::Higher => written::one(out, 0, Place(0), HIGHER),
     }
 }

@@ -1,15 +1,12 @@
 // The numbers that stand in a row's entries.
-#![tactic(auto, unfolding(crate::specs::Records::length_unit, crate::specs::Records::angle_unit, inherit::specs::Paper::whose_number))]
-
-ghost use Rattle.std.specs.Prelude.{cond, ◌≡◌};
+ghost use Rattle.std.specs.Prelude.{◌≡◌};
 ghost use Rattle.records.specs.Records.{bits_of, length_unit, angle_unit};
-ghost use Rattle.inherit.specs.Paper.{whose_number};
 
 use angle::AngleUnit;
-use inherit::Whose;
 use length::LengthUnit;
 
 // The bits of a float. No number that is read is a NaN, whose bits the language does not give.
+#[tactic(auto, unfolding(crate::specs::Records::bits_of), using(crate::proofs::Bits::nan_bits, floats::proofs::Bounds::equal_no_nan))]
 pub fn bits_of(x: f64) -> u64
     ensures { result ≡ bits_of x }
 {
@@ -19,6 +16,8 @@ pub fn bits_of(x: f64) -> u64
     f64::to_bits(x)
 }
 
+// No `From`, here and below: the unit and u64 are other crates' types.
+#[tactic(auto, unfolding(crate::specs::Records::length_unit))]
 pub fn length_unit(unit: LengthUnit) -> u64
     ensures { result ≡ length_unit unit }
 {
@@ -36,6 +35,7 @@ pub fn length_unit(unit: LengthUnit) -> u64
     }
 }
 
+#[tactic(auto, unfolding(crate::specs::Records::angle_unit))]
 pub fn angle_unit(unit: AngleUnit) -> u64
     ensures { result ≡ angle_unit unit }
 {
@@ -45,20 +45,4 @@ pub fn angle_unit(unit: AngleUnit) -> u64
         AngleUnit::Radians => 2,
         AngleUnit::Turns => 3,
     }
-}
-
-pub fn whose_number(whose: Whose) -> u64
-    ensures { result ≡ whose_number whose }
-{
-    match whose {
-        Whose::Own => 1,
-        Whose::Parent => 2,
-    }
-}
-
-// A yes as 1, a no as 0.
-pub fn bit(yes: bool) -> u64
-    ensures { result ≡ cond yes 1 0 }
-{
-    if yes { 1 } else { 0 }
 }

@@ -1,38 +1,40 @@
 // The record of a step of a list.
-ghost use Rattle.std.specs.Prelude.{◌≡◌, ◌+◌, ◌≤◌, length};
-ghost use Rattle.std.proofs.Math.Seq.{paste};
+ghost use Rattle.std.specs.Prelude.{◌≡◌};
 ghost use Rattle.records.specs.Records.{length_step_record, filter_record};
 
-use crate::{entries, filters, written};
-use filter_functions::FilterStep;
-use length::LengthStep;
+use crate::{State, entries, filters, written};
+use filter_functions::Listed;
+use length::Length;
+use numbers::Written;
+use stream::Step;
 
-pub fn write_length_step(out: &mut [u64], k: usize, step: LengthStep)
-    requires { k + 24 ≤ length out.old }
-    ensures { out.new ≡ paste out.old k (length_step_record step) 24 }
+#[tactic(auto, using(crate::proofs::Listing::length_refused, crate::proofs::Listing::length_end, crate::proofs::Listing::length_value))]
+pub fn write_length_step(out: &mut [u64; 24], step: Step<Option<Written<Length>>>)
+    ensures { out.new ≡ length_step_record step }
 {
-    match step {
-        LengthStep::Refused(e, place) => written::refused(out, k, e, 3, place),
-        LengthStep::End(place) => written::ended(out, k, 1, place),
-        LengthStep::Value(l, n, place) => {
-            let unit = l.unit;
-            let end = n.end;
-            let bits = entries::bits_of(l.number);
-            let unit = entries::length_unit(unit);
-            written::three(out, k, place, bits, unit, entries::bit(n.whole));
-            out[k + 12] = end.0 as u64;
+    match step.item {
+        Err(e) => written::refused(out, e, State::Refused.number(), step.place),
+        Ok(None) => written::ended(out, State::End.number(), step.place),
+        Ok(Some(w)) => {
+            let bits = entries::bits_of(w.value.number);
+            let unit = entries::length_unit(w.value.unit);
+            written::found(
+                out,
+                step.place,
+                [bits, unit, u64::from(w.whole), w.end.0 as u64],
+            );
         }
     }
 }
 
-pub fn write_filter(out: &mut [u64], k: usize, step: FilterStep)
-    requires { k + 24 ≤ length out.old }
-    ensures { out.new ≡ paste out.old k (filter_record step) 24 }
+#[tactic(auto, using(crate::proofs::Listing::filter_refused, crate::proofs::Listing::filter_end, crate::proofs::Listing::filter_none, crate::proofs::Listing::filter_value))]
+pub fn write_filter(out: &mut [u64; 24], step: Step<Listed>)
+    ensures { out.new ≡ filter_record step }
 {
-    match step {
-        FilterStep::Refused(e, place) => written::refused(out, k, e, 3, place),
-        FilterStep::End(place) => written::ended(out, k, 1, place),
-        FilterStep::NoneWord(place) => written::ended(out, k, 2, place),
-        FilterStep::Value(value, place) => filters::write_value(out, k, value, place),
+    match step.item {
+        Err(e) => written::refused(out, e, State::Refused.number(), step.place),
+        Ok(Listed::End) => written::ended(out, State::End.number(), step.place),
+        Ok(Listed::NoneWord) => written::ended(out, State::NoneWord.number(), step.place),
+        Ok(Listed::Value(value)) => filters::write_value(out, value, step.place),
     }
 }

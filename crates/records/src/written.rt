@@ -1,16 +1,29 @@
 // A row, written straight into the entries that are lent, case by case.
 // Built beside them and then copied, all of its values would be live at one place, and most would be spilled there.
-ghost use Rattle.std.specs.Prelude.{◌≡◌, [], ◌∷◌, ◌+◌, ◌≤◌, length};
+ghost use Rattle.std.specs.Prelude.{◌≡◌, [], ◌∷◌, ◌+◌, ◌≤◌};
 ghost use Rattle.std.proofs.Math.Seq.{paste};
+ghost use Rattle.stream.specs.Paper.{paper_refusal};
 ghost use Rattle.records.specs.Records.{row, found_row, end_row, color_entries};
 
 use color::Color;
-use stream::Refusal;
-use text_bytes::Place;
+use stream::{Reason, Refusal, Trouble};
+use text_bytes::{Part, Place};
 
 // A third of a row. Entry by entry, since a loop is compiled to a call that fills or copies memory.
-fn eight(out: &mut [u64], at: usize, a: u64, b: u64, c: u64, d: u64, e: u64, f: u64, g: u64, h: u64)
-    requires { at + 8 ≤ length out.old }
+#[tactic(auto, using(crate::proofs::Stores::eight_stored))]
+fn eight(
+    out: &mut [u64; 24],
+    at: usize,
+    a: u64,
+    b: u64,
+    c: u64,
+    d: u64,
+    e: u64,
+    f: u64,
+    g: u64,
+    h: u64,
+)
+    requires { at + 8 ≤ 24 }
     ensures { out.new ≡ paste out.old at (a ∷ b ∷ c ∷ d ∷ e ∷ f ∷ g ∷ h ∷ []) 8 }
 {
     out[at] = a;
@@ -23,71 +36,113 @@ fn eight(out: &mut [u64], at: usize, a: u64, b: u64, c: u64, d: u64, e: u64, f: 
     out[at + 7] = h;
 }
 
-// A refusal, with a list's state and place.
-pub fn refused(out: &mut [u64], k: usize, e: Refusal, state: u64, place: Place)
-    requires { k + 24 ≤ length out.old }
-    ensures { out.new ≡ paste out.old k (row e state place.0 []) 24 }
+// The columns that not every refusal tells are nought in the others.
+#[tactic(auto, unfolding(stream::specs::Paper::paper_refusal))]
+fn position_of(e: Refusal) -> u64
+    ensures { result ≡ (paper_refusal e).position }
 {
-    let position = e.position;
-    let at = e.place;
-    let part = e.part;
-    let start = part.start;
-    let from = e.from;
-    let to = e.to;
+    match e.position {
+        Some(position) => position.0 as u64,
+        None => 0,
+    }
+}
+
+#[tactic(auto, unfolding(stream::specs::Paper::paper_refusal))]
+fn place_of(e: Refusal) -> Place
+    ensures { result ≡ (paper_refusal e).place }
+{
+    match e.reason {
+        Reason::IllFormed => e.from,
+        _ => Place(0),
+    }
+}
+
+#[tactic(auto, unfolding(stream::specs::Paper::paper_refusal))]
+fn found_of(e: Refusal) -> u64
+    ensures { result ≡ (paper_refusal e).found }
+{
+    match e.reason {
+        Reason::Unread(Trouble::InvalidChar { found, .. }) => found as u64,
+        _ => 0,
+    }
+}
+
+#[tactic(auto, unfolding(stream::specs::Paper::paper_refusal))]
+fn wanted_of(e: Refusal) -> u64
+    ensures { result ≡ (paper_refusal e).wanted }
+{
+    match e.reason {
+        Reason::Unread(Trouble::InvalidChar { wanted, .. }) => wanted as u64,
+        _ => 0,
+    }
+}
+
+#[tactic(auto, unfolding(stream::specs::Paper::paper_refusal))]
+fn part_of(e: Refusal) -> Part
+    ensures { result ≡ (paper_refusal e).part }
+{
+    match e.reason {
+        Reason::Unread(Trouble::InvalidString) => Part {
+            start: e.from,
+            len: e.to.0.saturating_sub(e.from.0),
+        },
+        _ => Part {
+            start: Place(0),
+            len: 0,
+        },
+    }
+}
+
+// A refusal, with a list's state and place. The state is a number here: the row of a whole text, which is no step, has 0 there.
+#[tactic(auto, using(crate::proofs::Laid::refused_row))]
+pub fn refused(out: &mut [u64; 24], e: Refusal, state: u64, place: Place)
+    ensures { out.new ≡ row (paper_refusal e) state place.0 [] }
+{
+    let at = place_of(e);
+    let part = part_of(e);
+    let from = e.from.0 as u64;
+    let to = e.to.0 as u64;
     eight(
         out,
-        k,
-        e.number as u64,
-        position.0 as u64,
+        0,
+        e.reason.number() as u64,
+        position_of(e),
         at.0 as u64,
-        e.found as u64,
-        e.wanted as u64,
-        start.0 as u64,
+        found_of(e),
+        wanted_of(e),
+        part.start.0 as u64,
         part.len as u64,
         state,
     );
-    eight(out, k + 8, place.0 as u64, 0, 0, 0, 0, 0, 0, 0);
-    eight(out, k + 16, 0, 0, 0, 0, 0, from.0 as u64, to.0 as u64, 0);
+    eight(out, 8, place.0 as u64, 0, 0, 0, 0, 0, 0, 0);
+    eight(out, 16, 0, 0, 0, 0, 0, from, to, 0);
 }
 
-// A result of one number, two or three.
-pub fn one(out: &mut [u64], k: usize, place: Place, a: u64)
-    requires { k + 24 ≤ length out.old }
-    ensures { out.new ≡ paste out.old k (found_row place.0 (a ∷ [])) 24 }
+// A result of a few numbers, with a list's place or 0.
+#[tactic(auto, using(crate::proofs::Laid::found_stored))]
+pub fn found<const N: usize>(out: &mut [u64; 24], place: Place, numbers: [u64; N])
+    requires { N ≤ 12 }
+    ensures { out.new ≡ found_row place.0 numbers.entry }
 {
-    eight(out, k, 0, 0, 0, 0, 0, 0, 0, 0);
-    eight(out, k + 8, place.0 as u64, a, 0, 0, 0, 0, 0, 0);
-    eight(out, k + 16, 0, 0, 0, 0, 0, 0, 0, 0);
-}
-
-pub fn two(out: &mut [u64], k: usize, place: Place, a: u64, b: u64)
-    requires { k + 24 ≤ length out.old }
-    ensures { out.new ≡ paste out.old k (found_row place.0 (a ∷ b ∷ [])) 24 }
-{
-    one(out, k, place, a);
-    out[k + 10] = b;
-}
-
-pub fn three(out: &mut [u64], k: usize, place: Place, a: u64, b: u64, c: u64)
-    requires { k + 24 ≤ length out.old }
-    ensures { out.new ≡ paste out.old k (found_row place.0 (a ∷ b ∷ c ∷ [])) 24 }
-{
-    two(out, k, place, a, b);
-    out[k + 11] = c;
+    eight(out, 0, 0, 0, 0, 0, 0, 0, 0, 0);
+    eight(out, 8, place.0 as u64, 0, 0, 0, 0, 0, 0, 0);
+    eight(out, 16, 0, 0, 0, 0, 0, 0, 0, 0);
+    out[9..9 + N].copy_from_slice(&numbers);
 }
 
 // The end of a list, which has no result.
-pub fn ended(out: &mut [u64], k: usize, state: u64, place: Place)
-    requires { k + 24 ≤ length out.old }
-    ensures { out.new ≡ paste out.old k (end_row state place.0) 24 }
+#[tactic(auto, using(crate::proofs::Laid::ended_row))]
+pub fn ended(out: &mut [u64; 24], state: u64, place: Place)
+    ensures { out.new ≡ end_row state place.0 }
 {
-    one(out, k, place, 0);
-    out[k + 7] = state;
+    found(out, place, []);
+    out[7] = state;
 }
 
 // A colour in a row.
-pub fn color(out: &mut [u64], at: usize, c: Color)
-    requires { at + 4 ≤ length out.old }
+#[tactic(auto, using(crate::proofs::Stores::four_stored))]
+pub fn color(out: &mut [u64; 24], at: usize, c: Color)
+    requires { at + 4 ≤ 24 }
     ensures { out.new ≡ paste out.old at (color_entries c) 4 }
 {
     out[at] = c.red as u64;

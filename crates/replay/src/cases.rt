@@ -1,88 +1,115 @@
 // A case line, taken apart, and its answer.
-use crate::fields::Number;
-use crate::out::Line;
-use crate::words::{bytes_between, word_end};
-use crate::{calls, fields, lines};
+use crate::fields::{Unanswered, place, split_field, text};
+use crate::lines::Answer;
+use inherit::Whose;
+use records::State;
+use std::alloc::{AllocError, Global};
 use text_bytes::Place;
 
-fn text_line(out: &mut Line, call: u64, text: &[u8], place: Place) -> usize {
-    let mut row = [0u64; 24];
-    calls::write_row(&mut row, call, text, place);
-    lines::put_row(out, call, &row, text)
+// A call, and what it is made on: a text, with a place where it is a step of a list; of the inherit rule the own text and the parent's.
+#[derive(Drop)]
+pub enum Case {
+    Color(Vec<u8>),
+    Length(Vec<u8>),
+    Lengths(Vec<u8>, Place),
+    Angle(Vec<u8>),
+    Iri(Vec<u8>),
+    FuncIri(Vec<u8>),
+    Paint(Vec<u8>),
+    Inherit(Vec<u8>, Vec<u8>),
+    Filter(Vec<u8>, Place),
 }
 
-// A call on one text.
-fn one_text(out: &mut Line, call: u64, field: &[u8], place: Place) -> usize {
-    let mut space = [0; fields::TEXT];
-    match fields::decode(field, &mut space) {
-        Number::Value(n) => text_line(out, call, fields::first(&space, n), place),
-        Number::Wrong => 0,
-    }
+// Two fields: the place stands before the text.
+fn placed(alloc: Global, fields: &str) -> Result<(Vec<u8>, Place), Unanswered> {
+    let (before, field) = split_field(fields)?;
+    Ok((text(alloc, field)?, place(before)?))
 }
 
-// A step of a list: the place stands before the text.
-fn placed_text(out: &mut Line, call: u64, fields: &[u8]) -> usize {
-    let end = word_end(fields, 0);
-    if fields.len() <= end {
-        return 0;
+impl Case {
+    pub fn parse(alloc: Global, line: &[u8]) -> Result<Case, Unanswered> {
+        let line = str::from_utf8(line).map_err(|_| Unanswered::NoCase)?;
+        let (call, fields) = split_field(line)?;
+        match call {
+            "color" => Ok(Case::Color(text(alloc, fields)?)),
+            "length" => Ok(Case::Length(text(alloc, fields)?)),
+            "lengths" => {
+                let (list, at) = placed(alloc, fields)?;
+                Ok(Case::Lengths(list, at))
+            }
+            "angle" => Ok(Case::Angle(text(alloc, fields)?)),
+            "iri" => Ok(Case::Iri(text(alloc, fields)?)),
+            "funciri" => Ok(Case::FuncIri(text(alloc, fields)?)),
+            "paint" => Ok(Case::Paint(text(alloc, fields)?)),
+            "inherit" => {
+                let (own, parent) = split_field(fields)?;
+                Ok(Case::Inherit(text(alloc, own)?, text(alloc, parent)?))
+            }
+            "filter" => {
+                let (list, at) = placed(alloc, fields)?;
+                Ok(Case::Filter(list, at))
+            }
+            _ => Err(Unanswered::NoCase),
+        }
     }
-    match fields::decimal(bytes_between(fields, 0, end)) {
-        Number::Value(place) => one_text(out, call, &fields[end + 1..], Place(place)),
-        Number::Wrong => 0,
-    }
-}
 
-// The text that the inherit rule's answer speaks of, by its number.
-const PARENT: u64 = 2;
-
-fn text_of<'a>(whose: u64, own: &'a [u8], parent: &'a [u8]) -> &'a [u8] {
-    if whose == PARENT {
-        return parent;
+    fn row(&self) -> [u64; 24] {
+        let mut row = [0; 24];
+        match self {
+            Case::Color(text) => records::write_color(&mut row, color::from_str(text)),
+            Case::Length(text) => records::write_length(&mut row, length::from_str(text)),
+            Case::Lengths(list, at) => {
+                records::write_length_step(&mut row, length::next(list, *at));
+            }
+            Case::Angle(text) => records::write_angle(&mut row, angle::from_str(text)),
+            Case::Iri(text) => records::write_link(&mut row, funciri::iri_from_str(text)),
+            Case::FuncIri(text) => records::write_link(&mut row, funciri::func_iri_from_str(text)),
+            Case::Paint(text) => records::write_paint(&mut row, paint::from_str(text)),
+            Case::Inherit(own, parent) => {
+                records::write_inherited(&mut row, inherit::inherited(own, parent));
+            }
+            Case::Filter(list, at) => {
+                records::write_filter(&mut row, filter_functions::next(list, *at));
+            }
+        }
+        row
     }
-    own
-}
 
-fn inherit_line<'a>(out: &mut Line, own: &'a [u8], parent: &'a [u8]) -> usize {
-    let mut row = [0u64; 24];
-    calls::write_inherited(&mut row, own, parent);
-    let text = text_of(row[lines::RESULT], own, parent);
-    lines::put_row(out, calls::INHERIT, &row, text)
-}
+    // The text that the row speaks of: the inherit rule's row says whose, in its tenth entry.
+    fn text(&self, row: &[u64; 24]) -> &[u8] {
+        match self {
+            Case::Inherit(_, parent) if row[9] == u64::from(Whose::Parent.number()) => parent,
+            Case::Inherit(text, _) | Case::Lengths(text, _) | Case::Filter(text, _) => text,
+            Case::Color(text) | Case::Length(text) | Case::Angle(text) => text,
+            Case::Iri(text) | Case::FuncIri(text) | Case::Paint(text) => text,
+        }
+    }
 
-// The inherit rule on an element's own text and a field with its parent's.
-fn with_parent(out: &mut Line, own: &[u8], field: &[u8]) -> usize {
-    let mut space = [0; fields::TEXT];
-    match fields::decode(field, &mut space) {
-        Number::Value(n) => inherit_line(out, own, fields::first(&space, n)),
-        Number::Wrong => 0,
-    }
-}
-
-// The inherit rule: the own text stands before the parent's.
-fn two_texts(out: &mut Line, fields: &[u8]) -> usize {
-    let end = word_end(fields, 0);
-    if fields.len() <= end {
-        return 0;
-    }
-    let mut space = [0; fields::TEXT];
-    match fields::decode(bytes_between(fields, 0, end), &mut space) {
-        Number::Value(n) => with_parent(out, fields::first(&space, n), &fields[end + 1..]),
-        Number::Wrong => 0,
-    }
-}
-
-// The answer line of a case, with a space before it; 0 bytes where the line is none.
-pub fn case_line(out: &mut Line, line: &[u8]) -> usize {
-    let end = word_end(line, 0);
-    if line.len() <= end {
-        return 0;
-    }
-    let fields = &line[end + 1..];
-    let call = calls::call_of(bytes_between(line, 0, end));
-    match call {
-        calls::NO_CALL => 0,
-        calls::INHERIT => two_texts(out, fields),
-        calls::LENGTHS | calls::FILTER => placed_text(out, call, fields),
-        _ => one_text(out, call, fields, Place(0)),
+    // The answer line.
+    pub fn answer(&self, alloc: Global) -> Result<String, AllocError> {
+        let row = self.row();
+        let text = self.text(&row);
+        let mut answer = Answer::new(alloc, &row, text)?;
+        let [_, _, _, _, _, _, _, state, place, ..] = row;
+        match self {
+            Case::Color(_) => answer.put_color()?,
+            Case::Length(_) => answer.put_length()?,
+            Case::Lengths(..) => {
+                answer.put_step(state, place)?;
+                answer.put_length()?;
+            }
+            Case::Angle(_) => answer.put_angle()?,
+            Case::Iri(_) | Case::FuncIri(_) => answer.put_link(text)?,
+            Case::Paint(_) => answer.put_paint()?,
+            Case::Inherit(..) => answer.put_inherited(text)?,
+            Case::Filter(..) => {
+                answer.put_step(state, place)?;
+                // Only a value has a result.
+                if state == State::Value.number() {
+                    answer.put_filter()?;
+                }
+            }
+        }
+        Ok(answer.into_line())
     }
 }

@@ -2,79 +2,57 @@
 // A test program: what it writes is held to the file `stdout`. Proved is that it is safe and that it ends.
 #![tactic(auto)]
 
-mod calls;
 mod cases;
 mod fields;
 mod lines;
-mod out;
-mod words;
 
-use out::Line;
+use cases::Case;
+use fields::Unanswered;
+use std::alloc::{AllocError, Global};
 use std::io;
-use std::io::Read;
+use std::io::{BufRead, BufReader, Read};
 
 // What one read takes at most.
 const CHUNK: usize = 65536;
 
-// What a turn of reading leaves: so many bytes of a line that has not ended, or the end of the input.
-#[derive(Clone, Copy)]
-enum Fed {
-    More(usize),
-    End,
-}
+// What of a line is read at most.
+const LINE: u64 = 32768;
 
-fn answer(rt: &impl Print, line: &[u8]) -> io::Result<()> {
-    let mut space = [0; out::LINE];
-    let k = cases::case_line(&mut space, line);
-    if k == 0 {
-        return rt.write_all(b"?\n");
-    }
-    let n = out::put(&mut space, k, b'\n');
-    rt.write_all(out::written(&space, 1, n))
-}
-
-// One byte of input more: at a line feed the line is answered and begins anew. A line that fills the buffer is no case.
-fn step(rt: &impl Print, line: &mut Line, n: usize, b: u8) -> io::Result<usize> {
-    if b == b'\n' {
-        answer(rt, out::written(line, 0, n))?;
-        return Ok(0);
-    }
-    Ok(out::put(line, n, b))
-}
-
-fn feed(rt: &impl Print, line: &mut Line, n: usize, chunk: &[u8]) -> io::Result<usize> {
-    let mut k = n;
-    for b in chunk {
-        k = step(rt, line, k, *b)?;
-    }
-    Ok(k)
-}
-
-fn turn(rt: &impl Print, input: &mut impl Read, line: &mut Line, n: usize) -> io::Result<Fed> {
-    let mut chunk = [0; CHUNK];
-    let k = input.read(&mut chunk)?;
-    if k == 0 {
-        return Ok(Fed::End);
-    }
-    Ok(Fed::More(feed(rt, line, n, &chunk[..k])?))
-}
-
-// The turns are counted to a number that no run uses up: a proved loop ends.
-fn read_lines(rt: &impl Print, input: &mut impl Read, line: &mut Line) -> io::Result<()> {
-    let mut n: usize = 0;
-    for _ in 0..u64::MAX {
-        match turn(rt, input, line, n)? {
-            Fed::More(k) => n = k,
-            Fed::End => break,
+// A case's answer, written at once.
+fn answer(rt: &impl Print, alloc: Global, line: &[u8]) -> io::Result<()> {
+    match Case::parse(alloc, line) {
+        Ok(case) => {
+            let mut answer = case.answer(alloc)?;
+            answer.push('\n')?;
+            rt.write_all(answer.as_bytes())
         }
+        Err(Unanswered::NoCase) => rt.write_all(b"?\n"),
+        Err(Unanswered::NoMemory) => Err(io::Error::from(AllocError)),
     }
-    if 0 < n {
-        return answer(rt, out::written(line, 0, n));
+}
+
+// The next line in the place of the last one, without its line feed, and whether there is one. What goes past the room for a line is dropped.
+fn read_line(input: &mut impl BufRead, line: &mut Vec<u8>) -> io::Result<bool> {
+    line.clear();
+    let n = input.by_ref().take(LINE).read_until(b'\n', line)?;
+    if line.ends_with(b"\n") {
+        line.pop();
+    } else if n as u64 == LINE {
+        input.skip_until(b'\n')?;
     }
-    Ok(())
+    Ok(0 < n)
 }
 
 fn main(rt: HostRuntime) -> io::Result<()> {
-    let mut line = [0; out::LINE];
-    read_lines(&rt, &mut rt.stdin(), &mut line)
+    let alloc = rt.alloc();
+    let mut input = BufReader::with_capacity(alloc, CHUNK, rt.stdin())?;
+    let mut line = Vec::new(alloc);
+    // The turns are counted to a number that no run uses up: a proved loop ends.
+    for _ in 0..u64::MAX {
+        if !read_line(&mut input, &mut line)? {
+            break;
+        }
+        answer(&rt, alloc, &line)?;
+    }
+    Ok(())
 }

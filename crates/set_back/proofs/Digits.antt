@@ -9,15 +9,12 @@ use borrow.Author.Tests.{lt-leb, eqb-true}
 use lib.Dec.{T, eqb, ltb}
 use lib.ListN.{length}
 use Rattle.text_bytes.specs.Bytes.{within, is_hex_digit}
-use Rattle.text_bytes.specs.Flow.{bind}
-use Rattle.text_bytes.specs.Moves.{place}
 use Rattle.text_bytes.specs.Scan.{run, scan}
 use Rattle.text_bytes.proofs.Ranges.{all_from, across}
 use Rattle.utf8.specs.Characters.{is_ascii}
 use Rattle.names.proofs.Tables.{holds_true}
-use Rattle.color.specs.Color.{rgba, parse_color}
-use Rattle.color.specs.Hex.{from_hex, short_hex, hex_pair, short_color, long_color, parse_hex}
-use Rattle.color.specs.declared.ColorRead.TheVariants as C
+use Rattle.color.specs.Color.{parse_color}
+use Rattle.color.specs.Hex.{rgba, color_read, from_hex, short_hex, hex_pair, short_color, long_color, parse_hex}
 use Rattle.set_back.specs.Texts.{digit, doubled}
 
 -- half a byte
@@ -69,7 +66,7 @@ unfolding scan
 run_is l = simp (all_hex l)
 
 hash_first : (l : List Half) → parse_color (hashed l) 0 ≡ parse_hex (hashed l) 1
-unfolding parse_color bind scan run
+unfolding parse_color scan run
 hash_first l = simp (lt-leb (suc (length (map character l))) 0 (omega arith))
 
 -- a doubled digit, and two digits, as a channel
@@ -80,21 +77,21 @@ abbrev pub both : Half → Half → ℕ
 both h k = h.value * 16 + k.value
 
 module _ (r g b a : Half) where
-  pub three_read : parse_color (hashed (r ∷ g ∷ b ∷ [])) 0 ≡ C.Value (rgba (twice r) (twice g) (twice b) 255) (place 4)
-  unfolding parse_hex bind short_color short_hex
+  pub three_read : parse_color (hashed (r ∷ g ∷ b ∷ [])) 0 ≡ color_read (rgba (twice r) (twice g) (twice b) 255) 4
+  unfolding parse_hex short_color short_hex
   three_read = hash_first (r ∷ g ∷ b ∷ []) ∙ simp (run_is (r ∷ g ∷ b ∷ []), has_value)
 
-  pub four_read : parse_color (hashed (r ∷ g ∷ b ∷ a ∷ [])) 0 ≡ C.Value (rgba (twice r) (twice g) (twice b) (twice a)) (place 5)
-  unfolding parse_hex bind short_color short_hex
+  pub four_read : parse_color (hashed (r ∷ g ∷ b ∷ a ∷ [])) 0 ≡ color_read (rgba (twice r) (twice g) (twice b) (twice a)) 5
+  unfolding parse_hex short_color short_hex
   four_read = hash_first (r ∷ g ∷ b ∷ a ∷ []) ∙ simp (run_is (r ∷ g ∷ b ∷ a ∷ []), has_value)
 
   module _ (r' g' b' a' : Half) where
-    pub six_read : parse_color (hashed (r ∷ r' ∷ g ∷ g' ∷ b ∷ b' ∷ [])) 0 ≡ C.Value (rgba (both r r') (both g g') (both b b') 255) (place 7)
-    unfolding parse_hex bind long_color hex_pair
+    pub six_read : parse_color (hashed (r ∷ r' ∷ g ∷ g' ∷ b ∷ b' ∷ [])) 0 ≡ color_read (rgba (both r r') (both g g') (both b b') 255) 7
+    unfolding parse_hex long_color hex_pair
     six_read = hash_first (r ∷ r' ∷ g ∷ g' ∷ b ∷ b' ∷ []) ∙ simp (run_is (r ∷ r' ∷ g ∷ g' ∷ b ∷ b' ∷ []), has_value)
 
-    pub eight_read : parse_color (hashed (r ∷ r' ∷ g ∷ g' ∷ b ∷ b' ∷ a ∷ a' ∷ [])) 0 ≡ C.Value (rgba (both r r') (both g g') (both b b') (both a a')) (place 9)
-    unfolding parse_hex bind long_color hex_pair
+    pub eight_read : parse_color (hashed (r ∷ r' ∷ g ∷ g' ∷ b ∷ b' ∷ a ∷ a' ∷ [])) 0 ≡ color_read (rgba (both r r') (both g g') (both b b') (both a a')) 9
+    unfolding parse_hex long_color hex_pair
     eight_read = hash_first (r ∷ r' ∷ g ∷ g' ∷ b ∷ b' ∷ a ∷ a' ∷ []) ∙ simp (run_is (r ∷ r' ∷ g ∷ g' ∷ b ∷ b' ∷ a ∷ a' ∷ []), has_value)
 
 -- the halves of a byte

@@ -10,16 +10,16 @@ use lib.Dec.{T, eqb, leb}
 use lib.ListN.{length, get_or}
 use lib.Seq.{take-length}
 use Rattle.text_bytes.specs.Bytes.{within, is_space, is_ascii_ident}
-use Rattle.text_bytes.specs.Flow.{bind}
-use Rattle.text_bytes.specs.Moves.{place}
 use Rattle.text_bytes.specs.Scan.{run, scan}
 use Rattle.text_bytes.specs.Words.{same, part, lower_of, lowered}
 use Rattle.text_bytes.proofs.Ranges.{all_from, across, either}
 use Rattle.text_bytes.proofs.Wording.{same_eq}
 use Rattle.utf8.specs.Characters.{is_ascii}
-use Rattle.stream.specs.Refusals.{bare_refusal}
+use Rattle.std.specs.Prelude.{Option, Some, None, Result, Ok, Err}
+use Rattle.stream.specs.Refusals.{reason_number, bare_refusal}
+use Rattle.stream.specs.declared.Reason.TheVariants as R
 use Rattle.stream.specs.declared.Refusal.{Refusal}
-use Rattle.names.specs.Back.{Spelt, spelt, nameless, first_named, name_answer}
+use Rattle.names.specs.Back.{first_named, name_answer}
 use Rattle.names.specs.Keywords.{keywords}
 use Rattle.names.specs.Look.{channels}
 use Rattle.names.specs.Search.{nth}
@@ -28,12 +28,10 @@ use Rattle.names.proofs.Firsts.{first_entry, first_none, none_first}
 use Rattle.names.proofs.Naming.{named_keyword}
 use Rattle.names.proofs.Tables.{holds_true, table_count}
 use Rattle.color.specs.Answer.{from_str}
-use Rattle.color.specs.Color.{rgba, is_rgb, is_hsl, named_color, parse_word, parse_color}
+use Rattle.color.specs.Hex.{rgba, color_read}
+use Rattle.color.specs.Color.{is_rgb, is_hsl, rgb_of, named_color, parse_word, parse_color}
 use Rattle.color.specs.declared.Color.{Color}
-use Rattle.color.specs.declared.ColorRead.TheVariants as C
-use Rattle.color.specs.declared.ColorAnswer.TheVariants as A
-use Rattle.set_back.specs.Answers.{NoKeyword, rgb_of, settled, keyword_of, keyword_answer}
-use Rattle.set_back.specs.declared.SetBack.TheVariants as S
+use Rattle.set_back.specs.Answers.{NoKeyword, settled, keyword_of, keyword_answer}
 use Rattle.set_back.proofs.Readings.{whole_read}
 use Rattle.set_back.proofs.Settling.{Says}
 
@@ -53,15 +51,15 @@ rgb_of_is : (x : Rgb) (c : Color) → x ≡ rgb_of c → c.alpha ≡ 255 → rgb
 rgb_of_is x c e a = rw (e, ← a) refl
 
 -- 17 is told of no text alone
-no_text : (x : Spelt) (n : ℕ) → settled x n ≡ S.Refused (bare_refusal 17) → x ≡ nameless
-unfolding settled name_answer
-no_text nameless n e = refl
-no_text (spelt w) n e =
+no_text : (x : Option (List ℕ)) (n : ℕ) → settled x n ≡ Err (bare_refusal R.NoKeyword) → x ≡ None
+unfolding settled name_answer reason_number
+no_text None n e = refl
+no_text (Some w) n e =
     either (leb (length w) n)
-    (λ t. let r : S.Written (length w) ≡ S.Refused (bare_refusal 17) = simp t at e in let z : ◌≡◌ {A = ℕ} 0 1 = cc in absurd (omega arith))
-    (λ t. let r : S.Refused (bare_refusal 16) ≡ S.Refused (bare_refusal 17) = simp t at e in
-    let q : bare_refusal 16 ≡ bare_refusal 17 = cc in
-    let z : ◌≡◌ {A = ℕ} 16 17 = ap (λ (x : Refusal). x.number) q in
+    (λ t. let r : ◌≡◌ {A = Result ℕ Refusal} (Ok (length w)) (Err (bare_refusal R.NoKeyword)) = simp t at e in let z : ◌≡◌ {A = ℕ} 0 1 = cc in absurd (omega arith))
+    (λ t. let r : ◌≡◌ {A = Result ℕ Refusal} (Err (bare_refusal R.BufferTooShort)) (Err (bare_refusal R.NoKeyword)) = simp t at e in
+    let q : bare_refusal R.BufferTooShort ≡ bare_refusal R.NoKeyword = cc in
+    let z : ◌≡◌ {A = ℕ} 16 17 = ap (λ (x : Refusal). reason_number x.reason) q in
     absurd (omega arith))
 
 module _ (k : ℕ) (h : k < 147) where
@@ -101,16 +99,16 @@ module _ (k : ℕ) (h : k < 147) where
   unfolding keywords same lower_of within
   in_lower = same_eq _ _ (tested (λ j. same (nth j).name (lowered (nth j).name)) tt k h)
 
-  name_read : parse_color (nth k).name 0 ≡ C.Value (rgba (nth k).red (nth k).green (nth k).blue 255) (place (length (nth k).name))
-  unfolding parse_color parse_word named_color bind
+  name_read : parse_color (nth k).name 0 ≡ color_read (rgba (nth k).red (nth k).green (nth k).blue 255) (length (nth k).name)
+  unfolding parse_color parse_word named_color
   name_read =
       simp (no_space, name_some, no_hash, one_word, all_of (nth k).name, no_rgb, no_hsl, named_keyword (nth k).name k h in_lower)
 
-  pub name_back : from_str (nth k).name ≡ A.Value (rgba (nth k).red (nth k).green (nth k).blue 255)
+  pub name_back : from_str (nth k).name ≡ Ok (rgba (nth k).red (nth k).green (nth k).blue 255)
   name_back = whole_read (nth k).name _ name_ascii (leb-true _ _ name_short) name_read
 
 -- the first keyword with a colour reads back as the colour
-pub word_reads : (c : Color) (w : List ℕ) → first_named keywords (rgb_of c) ≡ spelt w → c.alpha ≡ 255 → from_str w ≡ A.Value c
+pub word_reads : (c : Color) (w : List ℕ) → first_named keywords (rgb_of c) ≡ Some w → c.alpha ≡ 255 → from_str w ≡ Ok c
 word_reads c w e a =
     let v = first_entry (rgb_of c) w e in
     let h : v.which < 147 = omega (arith, v.inside, table_count) in
@@ -122,20 +120,20 @@ unfolding keyword_of
 keyword_says c =
     either (eqb c.alpha 255) (λ t. simp t (says (first_named keywords (rgb_of c)) (λ w e. word_reads c w e (eqb-true _ _ t)))) (λ t. simp t tt)
   where
-    says : (x : Spelt) → ((w : List ℕ) → x ≡ spelt w → from_str w ≡ A.Value c) → Says x c
-    says (spelt w) f = f w refl
-    says nameless f = tt
+    says : (x : Option (List ℕ)) → ((w : List ℕ) → x ≡ Some w → from_str w ≡ Ok c) → Says x c
+    says (Some w) f = f w refl
+    says None f = tt
 
 -- where there is none
 module _ (c : Color) (n : ℕ) where
-  pub unnamed_refused : NoKeyword c → keyword_answer c n ≡ S.Refused (bare_refusal 17)
+  pub unnamed_refused : NoKeyword c → keyword_answer c n ≡ Err (bare_refusal R.NoKeyword)
   unfolding keyword_answer keyword_of settled name_answer
   unnamed_refused d =
       either (eqb c.alpha 255)
       (λ t. ⊎_elim (λ (f : c.alpha ≡ 255 → ⊥). absurd (f (eqb-true _ _ t))) (λ (f : (k : ℕ) → k < 147 → channels (nth k) ≡ rgb_of c → ⊥). simp (t, first_none (rgb_of c) f)) d)
       (λ t. simp t)
 
-  pub refused_unnamed : keyword_answer c n ≡ S.Refused (bare_refusal 17) → NoKeyword c
+  pub refused_unnamed : keyword_answer c n ≡ Err (bare_refusal R.NoKeyword) → NoKeyword c
   unfolding keyword_answer keyword_of
   refused_unnamed e =
       either (eqb c.alpha 255)

@@ -1,4 +1,4 @@
--- A colour as hex digits. Quotations are of document 02, P1.
+-- A colour as hex digits. What stands in quotation marks is the rule.
 use Rattle.std.specs.Prelude.{ℕ, ◌+◌, ◌-◌, ◌/◌, ◌%◌, Bool, ◌&&◌, cond, List, [], ◌∷◌, eqb, ltb}
 use Rattle.color.specs.declared.Color.{Color}
 

@@ -5,8 +5,8 @@ use mathlib.Core.Path.{◌≡◌, refl, sym, ◌∙◌}
 use native.Mathlib.Omega.{arith}
 use borrow.Author.Tests.{ne_eqb, eqb-true}
 use lib.Dec.{eqb, ltb}
+use Rattle.std.specs.Prelude.{Ok, Err}
 use Rattle.text_bytes.specs.Bytes.{within, is_sign, is_digit, is_hex_digit, is_space, is_upper}
-use Rattle.text_bytes.specs.Flow.{bind}
 use Rattle.text_bytes.specs.Words.{lower_of}
 use Rattle.text_bytes.proofs.Ranges.{either, within_ge, within_le}
 use Rattle.numbers.specs.Digits.{cap}
@@ -35,6 +35,10 @@ kind (A.Fraction m k) = numeric
 pub never : {C : Type 0} → false ≡ true → C
 never e = absurd (let z : ◌≡◌ {A = ℕ} 0 1 = cc in omega arith)
 
+-- an answer is a value or a refusal
+pub never_ok : {A E C : Type 0} {e : E} {a : A} → Err e ≡ Ok a → C
+never_ok q = absurd (let z : ◌≡◌ {A = ℕ} 0 1 = cc in omega arith)
+
 -- an atom that can come to its end: after a dot a 0 can follow, and a byte is its own small letter
 unfoldable pub able : Atom → Bool
 able A.Spaces = true
@@ -57,7 +61,7 @@ unfolding fair signed able
 signed_fair a q d b = either (is_digit b) (λ e. rw e (sym q, refl)) (λ e. rw e (either (d && eqb b 46) (λ f. rw f (sym q, refl)) (λ f. rw f tt)))
 
 act_fair : (a : Atom) (b : ℕ) → fair a (act a b)
-unfolding fair act ends able digits dot fraction bind
+unfolding fair act ends able digits dot fraction
 act_fair A.Spaces b = either (is_space b) (λ e. rw e (refl, refl)) (λ e. rw e refl)
 act_fair A.Hex b = either (is_hex_digit b) (λ e. rw e refl) (λ e. rw e tt)
 act_fair (A.Byte c) b = either (eqb (lower_of b) c) (λ e. rw e refl) (λ e. rw e tt)
@@ -68,7 +72,7 @@ act_fair (A.Digits d m) b =
     (λ e. rw e (either (d && eqb b 46) (λ f. rw f (either (ltb (push m 48) cap) (λ g. rw g (refl, g)) (λ g. rw g tt))) (λ f. rw f refl)))
 act_fair (A.Dot m) b = either (is_digit b) (λ e. rw e (either (ltb (push m b) cap) (λ f. rw f (refl, refl)) (λ f. rw f tt))) (λ e. rw e tt)
 act_fair (A.Fraction m k) b =
-    either (is_digit b) (λ e. rw e (either (ltb (push m b) cap) (λ f. rw f (either (ltb k 22) (λ g. rw g (refl, refl)) (λ g. rw g tt))) (λ f. rw f tt)))
+    either (is_digit b) (λ e. rw e (either (ltb k 22) (λ f. rw f (either (ltb (push m b) cap) (λ g. rw g (refl, refl)) (λ g. rw g tt))) (λ f. rw f tt)))
     (λ e. rw e refl)
 
 module _ (a : Atom) (b : ℕ) where
@@ -99,7 +103,7 @@ follows numeric b = not (is_digit b) && not (eqb b 46)
 
 -- it is handed on, where the atom may end
 pub hands_on : (a : Atom) (b : ℕ) → ends a ≡ true → follows (kind a) b ≡ true → act a b ≡ D.Pass
-unfolding follows act ends digits fraction bind
+unfolding follows act ends digits fraction
 hands_on A.Spaces b e f = either (is_space b) (λ g. never (rw g at f)) (λ g. simp g)
 hands_on A.Hex b e f = never e
 hands_on (A.Byte c) b e f = never e
@@ -164,7 +168,7 @@ lower_clear k b c e f = either (is_upper b) (λ u. capital k (digit_from 65 90 b
     capital numeric h = beside b (λ e. let d : (48 ≤ b) × (b ≤ 57) = digit_from 48 57 b e in omega arith) (λ e. omega arith)
 
 pub first_clear : (k : Kind) (x : Atom) (b : ℕ) → taken (act x b) ≡ true → clear k x ≡ true → follows k b ≡ true
-unfolding clear act bind signed
+unfolding clear act signed
 first_clear single x b t c = single_follows b
 first_clear blank A.Spaces b t c = never c
 first_clear blank A.Hex b t c = hex (is_hex_digit b) refl (either (is_hex_digit b) (λ e. e) (λ e. never (rw e at t)))

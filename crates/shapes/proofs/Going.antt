@@ -2,18 +2,20 @@
 use Prim.Native.Nat.{ℕ, zero, suc, ◌+◌, ◌≤◌, ◌<◌}
 use mathlib.Core.Bool.{true, false, ◌&&◌}
 use mathlib.Core.List.{List, [], ◌∷◌, ◌++◌}
-use mathlib.Core.Path.{◌≡◌, refl}
+use mathlib.Core.Path.{◌≡◌, refl, sym}
 use native.Mathlib.Omega.{arith}
 use lib.ListN.{length, take}
+use Rattle.std.specs.Prelude.{Option, Some, None, Result, Ok, Err}
 use Rattle.text_bytes.specs.Bytes.{within}
-use Rattle.text_bytes.specs.Flow.{bind}
-use Rattle.text_bytes.proofs.Ranges.{and_first, and_second}
-use Rattle.shapes.specs.Walk.{push, signed, dot, act, ends, Left, lost, left, step, walk}
+use Rattle.text_bytes.specs.Moves.{place}
+use Rattle.text_bytes.specs.declared.Place.{Place}
+use Rattle.text_bytes.proofs.Ranges.{either, and_first, and_second}
+use Rattle.shapes.specs.Walk.{push, signed, dot, act, ends, step, all_end, walk}
 use Rattle.shapes.specs.declared.Atom.{Atom}
 use Rattle.shapes.specs.declared.Atom.TheVariants as A
 use Rattle.shapes.specs.declared.Act.{Act}
 use Rattle.shapes.specs.declared.Act.TheVariants as D
-use Rattle.shapes.proofs.Fair.{kind, never, able, stay_kind, stay_able}
+use Rattle.shapes.proofs.Fair.{kind, never, never_ok, able, stay_kind, stay_able}
 use Rattle.shapes.proofs.Parts.{Takes, stop, last, more, Parts, apart, well, parts_walk}
 
 -- the shortest that brings an atom to its end
@@ -32,7 +34,7 @@ finish_all [] = []
 finish_all (a ∷ xs) = finish a ++ finish_all xs
 
 finishes : (a : Atom) → able a ≡ true → Takes a (finish a)
-unfolding finish able act ends signed dot bind within
+unfolding finish able act ends signed dot within
 finishes A.Spaces e = stop refl
 finishes A.Hex e = last refl
 finishes (A.Byte c) e = let f : act (A.Byte c) c ≡ D.Next = simp e in last f
@@ -63,7 +65,7 @@ finish_parts [] h = refl
 finish_parts (a ∷ xs) h =
     record { first = finish a; rest = finish_all xs; is = refl; takes = finishes a (well_able a xs h); others = finish_parts xs (well_rest a xs h) }
 
-pub finish_walk : (i : ℕ) (xs : List Atom) → well xs ≡ true → (walk i xs (finish_all xs)).whole ≡ true
+pub finish_walk : (i : ℕ) (xs : List Atom) → well xs ≡ true → walk i xs (finish_all xs) ≡ Ok tt
 finish_walk i xs h = parts_walk xs h (finish_all xs) (finish_parts xs h) i
 
 stay_well : (a x : Atom) (xs : List Atom) (b : ℕ) → act a b ≡ D.Stay x → well (a ∷ xs) ≡ true → well (x ∷ xs) ≡ true
@@ -71,35 +73,43 @@ unfolding well
 stay_well a x xs b q h = simp (stay_kind a b x q, well_apart a xs h, stay_able a b x q, well_rest a xs h)
 
 -- what is left of a good shape is one
-pub step_well : (xs ys : List Atom) (b : ℕ) → step xs b ≡ left ys → well xs ≡ true → well ys ≡ true
+none_some : {C : Type 0} {ys : List Atom} → None ≡ Some ys → C
+none_some q = never (let z : false ≡ true = cc in z)
+
+pub step_well : (xs ys : List Atom) (b : ℕ) → step xs b ≡ Some ys → well xs ≡ true → well ys ≡ true
 unfolding step
-step_well [] ys b e h = never (let z : false ≡ true = cc in z)
+step_well [] ys b e h = none_some e
 step_well (a ∷ xs) ys b e h = go (λ f. step_well xs ys b f (well_rest a xs h)) (act a b) refl
   where
-    go : (step xs b ≡ left ys → well ys ≡ true) → (r : Act) → act a b ≡ r → well ys ≡ true
+    go : (step xs b ≡ Some ys → well ys ≡ true) → (r : Act) → act a b ≡ r → well ys ≡ true
     go later D.Pass q = later (rw q at e)
-    go later (D.Stay x) q = let f : left (x ∷ xs) ≡ left ys = rw q at e in let g : x ∷ xs ≡ ys = cc in rw (← g) (stay_well a x xs b q h)
-    go later D.Next q = let f : left xs ≡ left ys = rw q at e in let g : xs ≡ ys = cc in rw (← g) (well_rest a xs h)
-    go later D.Lost q = never (let f : lost ≡ left ys = rw q at e in let z : false ≡ true = cc in z)
+    go later (D.Stay x) q = let f : Some (x ∷ xs) ≡ Some ys = rw q at e in let g : x ∷ xs ≡ ys = cc in rw (← g) (stay_well a x xs b q h)
+    go later D.Next q = let f : Some xs ≡ Some ys = rw q at e in let g : xs ≡ ys = cc in rw (← g) (well_rest a xs h)
+    go later D.Lost q = none_some (rw q at e)
 
--- How far a text goes: so far it can be gone on with to the end of the shape, and one byte further nothing can.
-pub record Goes (i : ℕ) (xs : List Atom) (s : List ℕ) : Type 0 where
+-- How far a text goes that is not walked to its end: so far it can be gone on with to the end of the shape, and one byte further nothing can.
+pub record Goes (i : ℕ) (xs : List Atom) (s : List ℕ) (p : Place) : Type 0 where
   pub count : ℕ
   pub rest : List ℕ
-  pub far : (walk i xs s).far.0 ≡ i + count
-  pub on : (walk i xs (take count s ++ rest)).whole ≡ true
-  pub off : count < length s → (n : ℕ) → count ≤ n → (t : List ℕ) → (walk i xs (take (suc n) s ++ t)).whole ≡ false
+  pub far : p.0 ≡ i + count
+  pub on : walk i xs (take count s ++ rest) ≡ Ok tt
+  pub off : count < length s → (n : ℕ) → count ≤ n → (t : List ℕ) → walk i xs (take (suc n) s ++ t) ≡ Ok tt → ⊥
 
-off_one : (i : ℕ) (ys : List Atom) (bs : List ℕ) (g : Goes i ys bs) → g.count < length bs → (n : ℕ) → suc g.count ≤ n → (t : List ℕ) → (walk i ys (take n bs ++ t)).whole ≡ false
-off_one i ys bs g k zero h t = absurd (omega arith)
-off_one i ys bs g k (suc n) h t = g.off k n (omega arith) t
+off_one : (i : ℕ) (ys : List Atom) (bs : List ℕ) (p : Place) (g : Goes i ys bs p) → g.count < length bs → (n : ℕ) → suc g.count ≤ n → (t : List ℕ) → walk i ys (take n bs ++ t) ≡ Ok tt → ⊥
+off_one i ys bs p g k zero h t = absurd (omega arith)
+off_one i ys bs p g k (suc n) h t = g.off k n (omega arith) t
 
-pub goes : (s : List ℕ) (i : ℕ) (xs : List Atom) → well xs ≡ true → Goes i xs s
+stopped : {i : ℕ} {p : Place} → ◌≡◌ {A = Result (Unit {0}) Place} (Err (place i)) (Err p) → p.0 ≡ i + 0
+stopped {i} {p} e = let q : place i ≡ p = cc in rw (← q) (omega arith)
+
+pub goes : (s : List ℕ) (i : ℕ) (xs : List Atom) (p : Place) → well xs ≡ true → walk i xs s ≡ Err p → Goes i xs s p
 unfolding walk
-goes [] i xs h = record { count = 0; rest = finish_all xs; far = omega arith; on = finish_walk i xs h; off = λ k n h t. absurd (omega arith) }
-goes (b ∷ bs) i xs h = go (λ ys f. goes bs (i + 1) ys f) (step xs b) refl
+goes [] i xs p h e =
+    either (all_end xs) (λ f. never_ok (sym (rw f at e)))
+    (λ f. record { count = 0; rest = finish_all xs; far = stopped (rw f at e); on = finish_walk i xs h; off = λ k n h t. absurd (omega arith) })
+goes (b ∷ bs) i xs p h e = go (λ ys f g. goes bs (i + 1) ys p f g) (step xs b) refl
   where
-    go : ((ys : List Atom) → well ys ≡ true → Goes (i + 1) ys bs) → (r : Left) → step xs b ≡ r → Goes i xs (b ∷ bs)
-    go later lost q = record { count = 0; rest = finish_all xs; far = rw q (omega arith); on = finish_walk i xs h; off = λ k n h t. rw q refl }
-    go later (left ys) q = let g : Goes (i + 1) ys bs = later ys (step_well xs ys b q h) in
-        record { count = suc g.count; rest = g.rest; far = rw q (omega (arith, g.far)); on = rw q g.on; off = λ k n h t. rw q (off_one (i + 1) ys bs g (omega arith) n h t) }
+    go : ((ys : List Atom) → well ys ≡ true → walk (i + 1) ys bs ≡ Err p → Goes (i + 1) ys bs p) → (r : Option (List Atom)) → step xs b ≡ r → Goes i xs (b ∷ bs) p
+    go later None q = record { count = 0; rest = finish_all xs; far = stopped (rw q at e); on = finish_walk i xs h; off = λ k n h t f. never_ok (rw q at f) }
+    go later (Some ys) q = let g : Goes (i + 1) ys bs p = later ys (step_well xs ys b q h) (rw q at e) in
+        record { count = suc g.count; rest = g.rest; far = omega (arith, g.far); on = rw q g.on; off = λ k n h t f. off_one (i + 1) ys bs p g (omega arith) n h t (rw q at f) }

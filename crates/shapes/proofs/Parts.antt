@@ -4,13 +4,14 @@ use mathlib.Core.Bool.{Bool, true, cond, ◌&&◌}
 use mathlib.Core.List.{List, [], ◌∷◌, ◌++◌}
 use mathlib.Core.Path.{◌≡◌, refl, ap}
 use lib.ListN.{get_or}
+use Rattle.std.specs.Prelude.{Ok}
 use Rattle.text_bytes.specs.Bytes.{within}
-use Rattle.text_bytes.proofs.Ranges.{and_first, and_second}
+use Rattle.text_bytes.proofs.Ranges.{either, and_first, and_second}
 use Rattle.shapes.specs.Walk.{act, ends, step, all_end, walk}
 use Rattle.shapes.specs.declared.Atom.{Atom}
 use Rattle.shapes.specs.declared.Act.{Act}
 use Rattle.shapes.specs.declared.Act.TheVariants as D
-use Rattle.shapes.proofs.Fair.{Kind, blank, single, numeric, kind, never, able, pass_ends, stay_kind, follows, hands_on, clear, first_clear}
+use Rattle.shapes.proofs.Fair.{Kind, blank, single, numeric, kind, never_ok, able, pass_ends, stay_kind, follows, hands_on, clear, first_clear}
 use Rattle.shapes.proofs.Walks.{turn_pass, turn_stay, turn_next, turn_lost, turn_end}
 
 -- the bytes bring the atom to its end
@@ -37,13 +38,13 @@ ended_parts [] e = refl
 ended_parts (a ∷ xs) e =
     record { first = []; rest = []; is = refl; takes = stop (and_first (ends a) (all_end xs) e); others = ended_parts xs (and_second (ends a) (all_end xs) e) }
 
-pub walk_parts : (s : List ℕ) (i : ℕ) (xs : List Atom) → (walk i xs s).whole ≡ true → Parts xs s
+pub walk_parts : (s : List ℕ) (i : ℕ) (xs : List Atom) → walk i xs s ≡ Ok tt → Parts xs s
 unfolding walk step
-walk_parts [] i xs e = ended_parts xs e
-walk_parts (b ∷ bs) i [] e = never e
+walk_parts [] i xs e = ended_parts xs (either (all_end xs) (λ f. f) (λ f. never_ok (rw f at e)))
+walk_parts (b ∷ bs) i [] e = never_ok e
 walk_parts (b ∷ bs) i (a ∷ xs) e = go (λ f. walk_parts (b ∷ bs) i xs f) (λ ys f. walk_parts bs (i + 1) ys f) (act a b) refl
   where
-    go : ((walk i xs (b ∷ bs)).whole ≡ true → Parts xs (b ∷ bs)) → ((ys : List Atom) → (walk (i + 1) ys bs).whole ≡ true → Parts ys bs)
+    go : (walk i xs (b ∷ bs) ≡ Ok tt → Parts xs (b ∷ bs)) → ((ys : List Atom) → walk (i + 1) ys bs ≡ Ok tt → Parts ys bs)
         → (r : Act) → act a b ≡ r → Part a (Parts xs) (b ∷ bs)
     go same next D.Pass q =
         record {
@@ -56,7 +57,7 @@ walk_parts (b ∷ bs) i (a ∷ xs) e = go (λ f. walk_parts (b ∷ bs) i xs f) (
     go same next (D.Stay x) q = let p : Part x (Parts xs) bs = next (x ∷ xs) (rw (turn_stay i a xs b bs x q) at e) in
         record { first = b ∷ p.first; rest = p.rest; is = ap (λ (l : List ℕ). b ∷ l) p.is; takes = more q p.takes; others = p.others }
     go same next D.Next q = record { first = b ∷ []; rest = bs; is = refl; takes = last q; others = next xs (rw (turn_next i a xs b bs q) at e) }
-    go same next D.Lost q = never (rw (turn_lost i a xs b bs q) at e)
+    go same next D.Lost q = never_ok (rw (turn_lost i a xs b bs q) at e)
 
 -- A shape whose neighbours are apart: what comes after an atom begins with no byte with which it would go on. It is computed.
 unfoldable pub apart : Kind → List Atom → Bool
@@ -87,18 +88,18 @@ parts_first k (x ∷ xs) h s p = go (λ f. parts_first k xs f p.rest p.others) p
     go later (b ∷ l) (more e t) q = rw q (first_clear k x b (rw e refl) c)
 
 takes_walk : {a : Atom} {l : List ℕ} → Takes a l → (i : ℕ) (xs : List Atom) (r : List ℕ) → follows (kind a) (get_or r 0 0) ≡ true
-    → ((j : ℕ) → (walk j xs r).whole ≡ true) → (walk i (a ∷ xs) (l ++ r)).whole ≡ true
+    → ((j : ℕ) → walk j xs r ≡ Ok tt) → walk i (a ∷ xs) (l ++ r) ≡ Ok tt
 takes_walk {a} (stop e) i xs [] f h = rw (turn_end i a xs e) (h i)
 takes_walk {a} (stop e) i xs (b ∷ r) f h = rw (turn_pass i a xs b r (hands_on a b e f)) (h i)
 takes_walk {a} (last {b} e) i xs r f h = rw (turn_next i a xs b r e) (h (i + 1))
 takes_walk {a} (more {x} {b} {l} e t) i xs r f h = rw (turn_stay i a xs b (l ++ r) x e) (takes_walk t (i + 1) xs r (rw (stay_kind a b x e) f) h)
 
 -- and a text with parts is walked to its end
-pub parts_walk : (xs : List Atom) → well xs ≡ true → (s : List ℕ) → Parts xs s → (i : ℕ) → (walk i xs s).whole ≡ true
+pub parts_walk : (xs : List Atom) → well xs ≡ true → (s : List ℕ) → Parts xs s → (i : ℕ) → walk i xs s ≡ Ok tt
 unfolding well walk all_end
 parts_walk [] h s p i = rw p (empty_whole i)
   where
-    empty_whole : (i : ℕ) → (walk i [] []).whole ≡ true
+    empty_whole : (i : ℕ) → walk i [] [] ≡ Ok tt
     empty_whole i = refl
 parts_walk (a ∷ xs) h s p i =
     let g : apart (kind a) xs && able a ≡ true = and_first (apart (kind a) xs && able a) (well xs) h in

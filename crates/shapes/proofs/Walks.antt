@@ -1,31 +1,22 @@
--- The walk's laws: a turn takes a byte or leaves an atom; and the loop that goes so.
-use Prim.Native.Nat.{ℕ, ◌+◌, ◌-◌, ◌≤◌, ◌<◌}
-use mathlib.Core.Bool.{Bool, true, false, cond}
+-- The walk's laws: a turn takes a byte or leaves an atom; an atom is gone on with to its end; and so on through the shape.
+use Prim.Native.Nat.{ℕ, suc, ◌+◌, ◌≤◌, ◌<◌}
+use mathlib.Core.Bool.{true, false, cond}
 use mathlib.Core.List.{List, [], ◌∷◌, map}
-use mathlib.Core.Logic.{◌⊎◌, inl, inr, ⊎_elim}
-use mathlib.Core.Path.{◌≡◌, refl, sym, ◌∙◌}
+use mathlib.Core.Path.{◌≡◌, refl, sym, ap, ◌∙◌}
 use native.Mathlib.Numerals.{add-one}
 use native.Mathlib.Omega.{arith}
-use borrow.Author.Tests.{lt-ltb, le-ltb, eq-eqb, ne_eqb}
-use lib.Dec.{ltb, eqb}
-use lib.ListN.{length, get_or, drop, drop_of_length-le}
-use lib.Seq.{drop-cons}
+use lib.ListN.{length, get_or, drop, length-drop, drop_of_length-le}
+use lib.Seq.{drop-cons, drop-drop}
+use Rattle.std.specs.Prelude.{Result, Ok, Err, MatchResult}
 use Rattle.text_bytes.specs.Moves.{place}
-use Rattle.text_bytes.proofs.Ranges.{lt_or_le}
-use Rattle.shapes.specs.Walk.{act, ends, step, all_end, walk, atom_of, turn}
+use Rattle.text_bytes.specs.declared.Place.{Place}
+use Rattle.text_bytes.proofs.Ranges.{either}
+use Rattle.stream.proofs.Binds.{at_ok, at_err}
+use Rattle.shapes.specs.Walk.{act, ends, step, all_end, walk, atom_of}
+use Rattle.shapes.specs.Consume.{onward, consumed, consume}
 use Rattle.shapes.specs.declared.Atom.{Atom}
 use Rattle.shapes.specs.declared.Act.{Act}
 use Rattle.shapes.specs.declared.Act.TheVariants as D
-use Rattle.shapes.specs.declared.Walked.{Walked}
-
-pub act_is : {r : Act} (a k : Atom) (b : ℕ) → a ≡ k → r ≡ act k b → r ≡ act a b
-act_is a k b e h = rw e h
-
-pub atom_from : {r : Atom} (x y : ℕ) → x ≡ y → r ≡ atom_of x → r ≡ atom_of y
-atom_from x y e h = rw (← e) h
-
-abbrev pub stopped : ℕ → Walked
-stopped i = record { far = place i; whole = false }
 
 -- one turn
 module _ (i : ℕ) (a : Atom) (xs : List Atom) where
@@ -41,7 +32,7 @@ module _ (i : ℕ) (a : Atom) (xs : List Atom) where
   unfolding walk step
   turn_next b bs e = simp e
 
-  pub turn_lost : (b : ℕ) (bs : List ℕ) → act a b ≡ D.Lost → walk i (a ∷ xs) (b ∷ bs) ≡ stopped i
+  pub turn_lost : (b : ℕ) (bs : List ℕ) → act a b ≡ D.Lost → walk i (a ∷ xs) (b ∷ bs) ≡ Err (place i)
   unfolding walk step
   turn_lost b bs e = simp e
 
@@ -49,111 +40,103 @@ module _ (i : ℕ) (a : Atom) (xs : List Atom) where
   unfolding walk all_end
   turn_end e = simp e
 
-  pub turn_stuck : ends a ≡ false → walk i (a ∷ xs) [] ≡ stopped i
+  pub turn_stuck : ends a ≡ false → walk i (a ∷ xs) [] ≡ Err (place i)
   unfolding walk all_end
   turn_stuck e = simp e
 
--- what is left of a shape at its code `at`, where the atom has come to `a`
-abbrev left_at : List ℕ → ℕ → Atom → List Atom
-left_at codes at a = cond (ltb at (length codes)) (a ∷ map atom_of (drop (at + 1) codes)) []
+-- One turn of the loop that goes on with an atom, for `grind`
+module _ (a : Atom) (s : List ℕ) (i : ℕ) where
+  pub consume_pass : i < length s → act a (get_or s i 0) ≡ D.Pass → consume a s i ≡ Ok (place i)
+  unfolding consume consumed
+  consume_pass h e = simp (drop-cons s i 0 h, e)
 
-left_fresh : (codes : List ℕ) (at : ℕ) → left_at codes at (atom_of (get_or codes at 0)) ≡ map atom_of (drop at codes)
-left_fresh codes at =
-    ⊎_elim (λ (h : at < length codes). simp (lt-ltb at (length codes) h, drop-cons codes at 0 h, add-one))
-    (λ (h : length codes ≤ at). simp (le-ltb at (length codes) h, drop_of_length-le codes {i = at} h))
-    (lt_or_le at (length codes))
+  pub consume_stay : i < length s → (x : Atom) → act a (get_or s i 0) ≡ D.Stay x → consume a s i ≡ consume x s (i + 1)
+  unfolding consume consumed
+  consume_stay h x e = simp (drop-cons s i 0 h, e, add-one)
 
-pub record Walking (codes s : List ℕ) (i at : ℕ) (a : Atom) : Type 0 where
-  pub inside : i ≤ length s
-  pub same : walk i (left_at codes at a) (drop i s) ≡ walk 0 (map atom_of codes) s
+  pub consume_next : i < length s → act a (get_or s i 0) ≡ D.Next → consume a s i ≡ Ok (place (i + 1))
+  unfolding consume consumed
+  consume_next h e = simp (drop-cons s i 0 h, e)
 
-pub walking_start : {codes s : List ℕ} {x : Atom} → x ≡ atom_of (get_or codes 0 0) → Walking codes s 0 0 x
-walking_start {codes} e = record { inside = omega arith; same = rw (e, left_fresh codes 0) }
+  pub consume_lost : i < length s → act a (get_or s i 0) ≡ D.Lost → consume a s i ≡ Err (place i)
+  unfolding consume consumed
+  consume_lost h e = simp (drop-cons s i 0 h, e)
 
--- the text has a byte at i, or it has ended there
-turned : (a : Atom) (s : List ℕ) (i : ℕ) → i ≤ length s
-    → ((i < length s) × (turn a s i ≡ act a (get_or s i 0))) ⊎ ((drop i s ≡ []) × (turn a s i ≡ cond (ends a) D.Pass D.Lost))
-unfolding turn
-turned a s i h =
-    ⊎_elim (λ (k : i < length s). inl (k, simp (lt-ltb i (length s) k)))
-    (λ (k : length s ≤ i). inr (drop_of_length-le s {i = i} k, simp (le-ltb i (length s) k)))
-    (lt_or_le i (length s))
+  pub consume_end : length s ≤ i → consume a s i ≡ cond (ends a) (Ok (place i)) (Err (place i))
+  unfolding consume consumed
+  consume_end h = simp (drop_of_length-le s {i = i} h)
 
-left_or_lost : (t : Bool) → (cond t D.Pass D.Lost ≡ D.Pass → t ≡ true) × (cond t D.Pass D.Lost ≡ D.Lost → t ≡ false)
-left_or_lost true = (λ e. refl, λ e. let z : ◌≡◌ {A = ℕ} 0 1 = cc in absurd (omega arith))
-left_or_lost false = (λ e. let z : ◌≡◌ {A = ℕ} 0 1 = cc in absurd (omega arith), λ e. refl)
+-- what is walked after an atom, where reading goes on at p
+pub record On (s : List ℕ) (i : ℕ) (a : Atom) (xs : List Atom) (p : Place) : Type 0 where
+  pub inside : p.0 ≤ length s
+  pub same : walk i (a ∷ xs) (drop i s) ≡ walk p.0 xs (drop p.0 s)
 
-no_stay : {C : Type 0} (t : Bool) (x : Atom) → cond t D.Pass D.Lost ≡ D.Stay x → C
-no_stay true x e = absurd (let z : ◌≡◌ {A = ℕ} 0 1 = cc in omega arith)
-no_stay false x e = absurd (let z : ◌≡◌ {A = ℕ} 0 1 = cc in omega arith)
+module _ (s : List ℕ) (xs : List Atom) where
+  abbrev Goes_on : ℕ → Atom → List ℕ → Type 0
+  Goes_on i a l = MatchResult (consumed i a l) (On s i a xs) (λ p. walk i (a ∷ xs) l ≡ Err p)
 
-no_next : {C : Type 0} (t : Bool) → cond t D.Pass D.Lost ≡ D.Next → C
-no_next true e = absurd (let z : ◌≡◌ {A = ℕ} 0 1 = cc in omega arith)
-no_next false e = absurd (let z : ◌≡◌ {A = ℕ} 0 1 = cc in omega arith)
+  goes_on : (l : List ℕ) (i : ℕ) (a : Atom) → drop i s ≡ l → i ≤ length s → Goes_on i a l
+  unfolding consumed
+  goes_on [] i a q h =
+      either (ends a) (λ e. simp e (record { inside = h; same = rw q (turn_end i a xs e) })) (λ e. simp e (turn_stuck i a xs e))
+  goes_on (b ∷ bs) i a q h = go (λ x f l. goes_on bs (i + 1) x f l) (act a b) refl
+    where
+      k : i < length s
+      k = let n : length (drop i s) ≡ suc (length bs) = ap length q in omega (arith, length-drop i s)
 
-module _ {codes s : List ℕ} {i at : ℕ} {a : Atom} (v : Walking codes s i at a) (h : at < length codes) {r : Act} (q : r ≡ turn a s i) where
-  there : (l : List ℕ) → drop i s ≡ l → walk i (a ∷ map atom_of (drop (at + 1) codes)) l ≡ walk 0 (map atom_of codes) s
-  there l e = simp (lt-ltb at (length codes) h, e) at v.same
+      tail : drop (i + 1) s ≡ bs
+      tail = sym (drop-drop 1 i s) ∙ ap (drop 1) q
 
-  here : i < length s → walk i (a ∷ map atom_of (drop (at + 1) codes)) (get_or s i 0 ∷ drop (i + 1) s) ≡ walk 0 (map atom_of codes) s
-  here k = there _ (simp (add-one, drop-cons s i 0 k))
+      go : ((x : Atom) → drop (i + 1) s ≡ bs → i + 1 ≤ length s → Goes_on (i + 1) x bs)
+          → (r : Act) → act a b ≡ r → MatchResult (onward i r (λ x. consumed (i + 1) x bs)) (On s i a xs) (λ p. walk i (a ∷ xs) (b ∷ bs) ≡ Err p)
+      go later D.Pass e = record { inside = h; same = rw q (turn_pass i a xs b bs e) }
+      go later (D.Stay x) e = further (consumed (i + 1) x bs) (later x tail (omega (arith, k)))
+        where
+          further : (c : Result Place Place) → MatchResult c (On s (i + 1) x xs) (λ p. walk (i + 1) (x ∷ xs) bs ≡ Err p) → MatchResult c (On s i a xs) (λ p. walk i (a ∷ xs) (b ∷ bs) ≡ Err p)
+          further (Ok p) v = record { inside = v.inside; same = rw q (turn_stay i a xs b bs x e) ∙ (ap (walk (i + 1) (x ∷ xs)) (sym tail) ∙ v.same) }
+          further (Err p) v = turn_stay i a xs b bs x e ∙ v
+      go later D.Next e = record { inside = omega (arith, k); same = rw (q, tail) (turn_next i a xs b bs e) }
+      go later D.Lost e = turn_lost i a xs b bs e
 
-  pub walking_pass : {x : Atom} → r ≡ D.Pass → x ≡ atom_of (get_or codes (at + 1) 0) → Walking codes s i (at + 1) x
-  walking_pass e f =
-      record {
-        inside = v.inside;
-        same = rw (f, left_fresh codes (at + 1)) (⊎_elim
-            (λ (t : (i < length s) × (turn a s i ≡ act a (get_or s i 0))). rw (drop-cons s i 0 t.0, ← add-one i) (sym (turn_pass i a _ _ _ (sym t.1 ∙ (sym q ∙ e))) ∙ here t.0))
-            (λ (t : (drop i s ≡ []) × (turn a s i ≡ cond (ends a) D.Pass D.Lost)). rw t.0 (sym (turn_end i a _ ((left_or_lost (ends a)).0 (sym t.1 ∙ (sym q ∙ e)))) ∙ there [] t.0))
-            (turned a s i v.inside));
-      }
+  module _ (i : ℕ) (a : Atom) (h : i ≤ length s) where
+    pub on_ok : (p : Place) → consume a s i ≡ Ok p → On s i a xs p
+    unfolding consume
+    on_ok p e = at_ok (On s i a xs) _ (consumed i a (drop i s)) p (goes_on (drop i s) i a refl h) e
 
-  -- a byte is taken only where there is one
-  pub stay_inside : (x : Atom) → r ≡ D.Stay x → i < length s
-  stay_inside x e =
-      ⊎_elim (λ (t : (i < length s) × (turn a s i ≡ act a (get_or s i 0))). t.0)
-      (λ (t : (drop i s ≡ []) × (turn a s i ≡ cond (ends a) D.Pass D.Lost)). no_stay (ends a) x (sym t.1 ∙ (sym q ∙ e)))
-      (turned a s i v.inside)
+    pub on_err : (p : Place) → consume a s i ≡ Err p → walk i (a ∷ xs) (drop i s) ≡ Err p
+    unfolding consume
+    on_err p e = at_err (On s i a xs) _ (consumed i a (drop i s)) p (goes_on (drop i s) i a refl h) e
 
-  pub stay_less : (x : Atom) → r ≡ D.Stay x → (m : ℕ) → (length s - (i + 1)) + m < (length s - i) + m
-  stay_less x e m = omega (arith, stay_inside x e)
+-- The loop over a shape: what is left at its code k, and at the place of the text
+pub record Walking (codes s : List ℕ) (k : ℕ) (at : Place) : Type 0 where
+  pub inside : at.0 ≤ length s
+  pub same : walk at.0 (map atom_of (drop k codes)) (drop at.0 s) ≡ walk 0 (map atom_of codes) s
 
-  pub next_inside : r ≡ D.Next → i < length s
-  next_inside e =
-      ⊎_elim (λ (t : (i < length s) × (turn a s i ≡ act a (get_or s i 0))). t.0)
-      (λ (t : (drop i s ≡ []) × (turn a s i ≡ cond (ends a) D.Pass D.Lost)). no_next (ends a) (sym t.1 ∙ (sym q ∙ e)))
-      (turned a s i v.inside)
+pub walking_start : (codes s : List ℕ) → Walking codes s 0 (place 0)
+walking_start codes s = record { inside = omega arith; same = refl }
 
-  inside_act : i < length s → turn a s i ≡ act a (get_or s i 0)
-  unfolding turn
-  inside_act k = simp (lt-ltb i (length s) k)
+module _ {codes s : List ℕ} {k : ℕ} {at : Place} (v : Walking codes s k at) where
+  module _ (h : k < length codes) (p : Place) where
+    pub walking_on : consume (atom_of (get_or codes k 0)) s at.0 ≡ Ok p → Walking codes s (k + 1) p
+    walking_on e =
+        let w : On s at.0 (atom_of (get_or codes k 0)) (map atom_of (drop (suc k) codes)) p = on_ok s _ at.0 _ v.inside p e in
+        record { inside = w.inside; same = rw (add-one k) (sym w.same ∙ rw (drop-cons codes k 0 h) at v.same) }
 
-  pub walking_stay : (x : Atom) → r ≡ D.Stay x → Walking codes s (i + 1) at x
-  walking_stay x e =
-      let k = stay_inside x e in
-      record { inside = omega arith; same = rw (lt-ltb at (length codes) h) (sym (turn_stay i a _ _ _ x (sym (inside_act k) ∙ (sym q ∙ e))) ∙ here k) }
+    pub walking_off : consume (atom_of (get_or codes k 0)) s at.0 ≡ Err p → Err p ≡ walk 0 (map atom_of codes) s
+    walking_off e =
+        let w : walk at.0 (atom_of (get_or codes k 0) ∷ map atom_of (drop (suc k) codes)) (drop at.0 s) ≡ Err p = on_err s _ at.0 _ v.inside p e in
+        sym w ∙ rw (drop-cons codes k 0 h) at v.same
 
-  pub walking_next : {x : Atom} → r ≡ D.Next → x ≡ atom_of (get_or codes (at + 1) 0) → Walking codes s (i + 1) (at + 1) x
-  walking_next e f =
-      let k = next_inside e in
-      record { inside = omega arith; same = rw (f, left_fresh codes (at + 1)) (sym (turn_next i a _ _ _ (sym (inside_act k) ∙ (sym q ∙ e))) ∙ here k) }
+  module _ (h : length codes ≤ k) where
+    nothing_left : walk at.0 [] (drop at.0 s) ≡ walk 0 (map atom_of codes) s
+    nothing_left = simp (drop_of_length-le codes {i = k} h) at v.same
 
-  pub walking_lost : r ≡ D.Lost → stopped i ≡ walk 0 (map atom_of codes) s
-  walking_lost e =
-      ⊎_elim (λ (t : (i < length s) × (turn a s i ≡ act a (get_or s i 0))). sym (turn_lost i a _ _ _ (sym t.1 ∙ (sym q ∙ e))) ∙ here t.0)
-      (λ (t : (drop i s ≡ []) × (turn a s i ≡ cond (ends a) D.Pass D.Lost)). sym (turn_stuck i a _ ((left_or_lost (ends a)).1 (sym t.1 ∙ (sym q ∙ e)))) ∙ there [] t.0)
-      (turned a s i v.inside)
+    pub walking_short : at.0 < length s → Err at ≡ walk 0 (map atom_of codes) s
+    unfolding walk step
+    walking_short l = simp (drop-cons s at.0 0 l) at nothing_left
 
--- nothing is left of the shape
-empty_walk : (s : List ℕ) (i : ℕ) → i ≤ length s → record { far = place i; whole = eqb i (length s) } ≡ walk i [] (drop i s)
-unfolding walk step all_end
-empty_walk s i h =
-    ⊎_elim (λ (k : i < length s). simp (ne_eqb i (length s) (λ e. omega arith), drop-cons s i 0 k))
-    (λ (k : length s ≤ i). simp (eq-eqb i (length s) (omega arith), drop_of_length-le s {i = i} k))
-    (lt_or_le i (length s))
+    pub walking_done : length s ≤ at.0 → Ok tt ≡ walk 0 (map atom_of codes) s
+    unfolding walk all_end
+    walking_done l = simp (drop_of_length-le s {i = at.0} l) at nothing_left
 
-pub walking_done : {codes s : List ℕ} {i at : ℕ} {a : Atom} → Walking codes s i at a → length codes ≤ at
-    → record { far = place i; whole = eqb i (length s) } ≡ walk 0 (map atom_of codes) s
-walking_done {codes} {s} {i} {at} v h = empty_walk s i v.inside ∙ simp (le-ltb at (length codes) h) at v.same
-
-pub ruleset walked = (walking_start, walking_pass, walking_stay, walking_next, walking_lost, walking_done, stay_inside, stay_less, next_inside)
+pub ruleset walked = (walking_start, walking_on, walking_off, walking_short, walking_done)

@@ -1,23 +1,25 @@
-// A shape is a list of atoms, and a text is walked by it, byte by byte: how far it goes, and whether to its end.
+// A shape is a list of atoms, and a text is walked by it, atom by atom: to its end, or how far it goes.
 #![tactic(auto)]
 
-ghost use Rattle.std.specs.Prelude.{◌≡◌, map, ◌-◌, get_or};
-ghost use Rattle.shapes.specs.Walk.{push, signed, digits, dot, fraction, act, ends, atom_of, turn, walk};
+ghost use Rattle.std.specs.Prelude.{◌≡◌, map, ◌-◌};
+ghost use Rattle.shapes.specs.Walk.{push, below, signed, digits, dot, fraction, act, ends, atom_of, walk};
+ghost use Rattle.shapes.specs.Consume.{consume};
 
 use numbers::LIMIT;
 use text_bytes::Place;
 
-// What may come next. A number has five, by what came of it; `dots` says whether a dot may come.
+// What may come next. A number has five, by what came of it: whether a dot may come, what its digits say, how many came after the dot.
+// `dots` is a flag: the definition tests it by `if`, and an enum of two would be turned into one there.
 #[derive(Clone, Copy)]
 pub enum Atom {
     Spaces,
     Hex,
     Byte(u8),
-    Number(bool),
-    Signed(bool),
-    Digits(bool, u64),
-    Dot(u64),
-    Fraction(u64, u64),
+    Number { dots: bool },
+    Signed { dots: bool },
+    Digits { dots: bool, m: u64 },
+    Dot { m: u64 },
+    Fraction { m: u64, k: u64 },
 }
 
 // What an atom does with a byte: hands it on to the next, takes it and stays, takes it and is done, or is lost.
@@ -29,225 +31,164 @@ pub enum Act {
     Lost,
 }
 
-// How far a text goes by a shape, and whether it is walked to its end.
-#[derive(Clone, Copy)]
-pub struct Walked {
-    pub far: Place,
-    pub whole: bool,
-}
+impl Atom {
+    // What comes of an atom at a byte.
+    #[tactic(auto, unfolding(crate::specs::Walk::act))]
+    fn act(self, b: u8) -> Act
+        ensures { result ≡ act self b }
+    {
+        match self {
+            Atom::Spaces if text_bytes::is_space(b) => Act::Stay(Atom::Spaces),
+            Atom::Spaces => Act::Pass,
+            Atom::Hex if text_bytes::is_hex_digit(b) => Act::Next,
+            Atom::Hex => Act::Lost,
+            Atom::Byte(c) if text_bytes::to_ascii_lowercase(b) == c => Act::Next,
+            Atom::Byte(_) => Act::Lost,
+            Atom::Number { dots } if text_bytes::is_sign(b) => Act::Stay(Atom::Signed { dots }),
+            Atom::Number { dots } => signed(dots, b),
+            Atom::Signed { dots } => signed(dots, b),
+            Atom::Digits { dots, m } => digits(dots, m, b),
+            Atom::Dot { m } => dot(m, b),
+            Atom::Fraction { m, k } => fraction(m, k, b),
+        }
+    }
 
-// What a digit counts.
-fn value_of(b: u8) -> u64
-    ensures { result ≡ b - 48 }
-{
-    if b < b'0' { 0 } else { (b - b'0') as u64 }
+    // Whether an atom may end where it stands.
+    #[tactic(auto, unfolding(crate::specs::Walk::ends))]
+    fn ends(self) -> bool
+        ensures { result ≡ ends self }
+    {
+        matches!(
+            self,
+            Atom::Spaces | Atom::Digits { .. } | Atom::Fraction { .. }
+        )
+    }
 }
 
 // One digit more, held at 2^53.
 fn push(m: u64, b: u8) -> u64
     ensures { result ≡ push m b }
 {
-    if m < LIMIT {
-        let n = m * 10 + value_of(b);
-        if n < LIMIT {
-            return n;
-        }
-    }
-    LIMIT
+    numbers::push_digit(m, b, LIMIT)
 }
 
+// A number goes on while its digits stay below 2^53.
+fn below(n: u64, a: Atom) -> Act
+    ensures { result ≡ below n a }
+{
+    if n < LIMIT { Act::Stay(a) } else { Act::Lost }
+}
+
+// Nothing but a sign came, if that.
+#[tactic(auto, unfolding(crate::specs::Walk::signed))]
 fn signed(dots: bool, b: u8) -> Act
     ensures { result ≡ signed dots b }
 {
     if text_bytes::is_digit(b) {
-        return Act::Stay(Atom::Digits(dots, push(0, b)));
+        return Act::Stay(Atom::Digits {
+            dots,
+            m: push(0, b),
+        });
     }
-    if dots & (b == b'.') {
-        return Act::Stay(Atom::Dot(0));
+    if dots && b == b'.' {
+        return Act::Stay(Atom::Dot { m: 0 });
     }
     Act::Lost
 }
 
+// Digits came. A dot is taken only where a 0 can follow it.
+#[tactic(auto, unfolding(crate::specs::Walk::digits))]
 fn digits(dots: bool, m: u64, b: u8) -> Act
     ensures { result ≡ digits dots m b }
 {
     if text_bytes::is_digit(b) {
-        let n = push(m, b);
-        if n < LIMIT {
-            return Act::Stay(Atom::Digits(dots, n));
-        }
-        return Act::Lost;
+        let m = push(m, b);
+        return below(m, Atom::Digits { dots, m });
     }
-    if dots & (b == b'.') {
-        let n = push(m, b'0');
-        if n < LIMIT {
-            return Act::Stay(Atom::Dot(m));
-        }
-        return Act::Lost;
+    if dots && b == b'.' {
+        return below(push(m, b'0'), Atom::Dot { m });
     }
     Act::Pass
 }
 
+// A dot came.
+#[tactic(auto, unfolding(crate::specs::Walk::dot))]
 fn dot(m: u64, b: u8) -> Act
     ensures { result ≡ dot m b }
 {
     if text_bytes::is_digit(b) {
-        let n = push(m, b);
-        if n < LIMIT {
-            return Act::Stay(Atom::Fraction(n, 1));
-        }
+        let m = push(m, b);
+        return below(m, Atom::Fraction { m, k: 1 });
     }
     Act::Lost
 }
 
-#[tactic(auto, using(text_bytes::proofs::Flows::flow), unfolding(crate::specs::Walk::fraction))]
+// So many digits came after the dot.
+#[tactic(auto, unfolding(crate::specs::Walk::fraction))]
 fn fraction(m: u64, k: u64, b: u8) -> Act
     ensures { result ≡ fraction m k b }
 {
-    if text_bytes::is_digit(b) {
-        let n = push(m, b);
-        if n < LIMIT {
-            if k < 22 {
-                return Act::Stay(Atom::Fraction(n, k + 1));
-            }
-        }
-        return Act::Lost;
+    if !text_bytes::is_digit(b) {
+        return Act::Pass;
     }
-    Act::Pass
-}
-
-fn number(dots: bool, b: u8) -> Act
-    ensures { result ≡ act (Atom.Number dots) b }
-{
-    if text_bytes::is_sign(b) {
-        return Act::Stay(Atom::Signed(dots));
-    }
-    signed(dots, b)
-}
-
-fn hex(b: u8) -> Act
-    ensures { result ≡ act Atom.Hex b }
-{
-    if text_bytes::is_hex_digit(b) {
-        return Act::Next;
+    if k < 22 {
+        let m = push(m, b);
+        return below(m, Atom::Fraction { m, k: k + 1 });
     }
     Act::Lost
 }
 
-fn byte(c: u8, b: u8) -> Act
-    ensures { result ≡ act (Atom.Byte c) b }
-{
-    if text_bytes::to_ascii_lowercase(b) == c {
-        return Act::Next;
-    }
-    Act::Lost
-}
-
-fn spaces(b: u8) -> Act
-    ensures { result ≡ act Atom.Spaces b }
-{
-    if text_bytes::is_space(b) {
-        return Act::Stay(Atom::Spaces);
-    }
-    Act::Pass
-}
-
-fn act_of(a: Atom, b: u8) -> Act
-    ensures { result ≡ act a b }
-{
-    match a {
-        Atom::Spaces => spaces(b),
-        Atom::Hex => hex(b),
-        Atom::Byte(c) => byte(c, b),
-        Atom::Number(dots) => number(dots, b),
-        Atom::Signed(dots) => signed(dots, b),
-        Atom::Digits(dots, m) => digits(dots, m, b),
-        Atom::Dot(m) => dot(m, b),
-        Atom::Fraction(m, k) => fraction(m, k, b),
-    }
-}
-
-// Whether an atom may end where it stands.
-fn ends(a: Atom) -> bool
-    ensures { result ≡ ends a }
-{
-    match a {
-        Atom::Spaces => true,
-        Atom::Hex => false,
-        Atom::Byte(_) => false,
-        Atom::Number(_) => false,
-        Atom::Signed(_) => false,
-        Atom::Digits(_, _) => true,
-        Atom::Dot(_) => false,
-        Atom::Fraction(_, _) => true,
-    }
-}
-
-// A shape's codes: 1 spaces, 2 a hex digit, 3 a whole number, 4 a number, else the byte itself, in small letters.
+// How a shape is written: 1, 2, 3 and 4 for white space, a hex digit, a whole number and a number, any other byte for itself.
+// Codes and no enum: `walk` promises what it does of any bytes (docs/PROMISES.md).
+#[tactic(auto, unfolding(crate::specs::Walk::atom_of))]
 fn atom_of(code: u8) -> Atom
     ensures { result ≡ atom_of code }
 {
     match code {
         1 => Atom::Spaces,
         2 => Atom::Hex,
-        3 => Atom::Number(false),
-        4 => Atom::Number(true),
+        3 => Atom::Number { dots: false },
+        4 => Atom::Number { dots: true },
         c => Atom::Byte(c),
     }
 }
 
-fn atom_at(shape: &[u8], at: Place) -> Atom
-    ensures { result ≡ atom_of (get_or shape.now at.0 0) }
+// The place where an atom has come to its end, or else where it is lost. The place is the answer: an iterator's count would have to be turned back into it at each exit.
+#[tactic(auto, using(crate::proofs::Walks::consume_pass, crate::proofs::Walks::consume_stay, crate::proofs::Walks::consume_next, crate::proofs::Walks::consume_lost, crate::proofs::Walks::consume_end))]
+fn consume(atom: Atom, text: &[u8], at: Place) -> Result<Place, Place>
+    ensures { result ≡ consume atom text.now at.0 }
 {
-    atom_of(text_bytes::byte_at(shape, at))
-}
-
-// What an atom does at a place of the text: at its end, it is left or lost.
-fn turn(atom: Atom, text: &[u8], at: Place) -> Act
-    ensures { result ≡ turn atom text.now at.0 }
-{
-    let i = at.0;
-    if i < text.len() {
-        return act_of(atom, text[i]);
-    }
-    if ends(atom) {
-        return Act::Pass;
-    }
-    Act::Lost
-}
-
-// Each turn takes a byte or leaves an atom.
-pub fn walk(shape: &[u8], text: &[u8]) -> Walked
-    ensures { result ≡ walk 0 (map atom_of shape.now) text.now }
-{
-    let mut i = 0;
-    let mut at = 0;
-    let mut atom = atom_at(shape, Place(0));
-    while at < shape.len() {
-        match turn(atom, text, Place(i)) {
-            Act::Pass => {
-                at += 1;
-                atom = atom_at(shape, Place(at));
-            }
-            Act::Stay(a) => {
+    let mut i = at.0;
+    let mut a = atom;
+    while i < text.len() {
+        match a.act(text[i]) {
+            Act::Pass => return Ok(Place(i)),
+            Act::Stay(next) => {
                 i += 1;
-                atom = a;
+                a = next;
             }
-            Act::Next => {
-                i += 1;
-                at += 1;
-                atom = atom_at(shape, Place(at));
-            }
-            Act::Lost => {
-                return Walked {
-                    far: Place(i),
-                    whole: false,
-                };
-            }
+            Act::Next => return Ok(Place(i + 1)),
+            Act::Lost => return Err(Place(i)),
         }
     }
-    Walked {
-        far: Place(i),
-        whole: i == text.len(),
+    if a.ends() {
+        Ok(Place(i))
+    } else {
+        Err(Place(i))
     }
+}
+
+// Whether a text is walked to its end, or else how far.
+#[tactic(auto, using(crate::proofs::Walks::walked))]
+pub fn walk(shape: &[u8], text: &[u8]) -> Result<(), Place>
+    ensures { result ≡ walk 0 (map atom_of shape.now) text.now }
+{
+    let mut at = Place(0);
+    for code in shape {
+        at = consume(atom_of(*code), text, at)?;
+    }
+    if at.0 < text.len() {
+        return Err(at);
+    }
+    Ok(())
 }

@@ -6,9 +6,9 @@ use mathlib.Core.Path.{◌≡◌, refl}
 use native.Mathlib.Omega.{arith}
 use borrow.Author.Tests.{ne_eqb}
 use lib.ListN.{length, get_or, length-append}
+use Rattle.std.specs.Prelude.{Ok}
 use Rattle.text_bytes.specs.Bytes.{is_tail}
 use Rattle.utf8.specs.Characters.{utf8_of, firsts, on_character}
-use Rattle.utf8.specs.declared.Utf8.TheVariants.{WellFormed}
 use Rattle.utf8.proofs.Counting.{on_byte, on_end}
 use Rattle.standards.specs.Rfc3629.{Char, utf8_1, utf8_2, utf8_3_e0, utf8_3_e1, utf8_3_ed, utf8_3_ee, utf8_4_f0, utf8_4_f1, utf8_4_f4, octets, text, scalar}
 use Rattle.standards.specs.CssSyntax3.{Of, characters, written}
@@ -43,7 +43,7 @@ written_some c l = simp length-append (omega (arith, octets_some c.is))
 pub at_on : {s : List ℕ} {n : ℕ} (b : List ℕ) → Written s → At s n b → is_tail (get_or b 0 0) ≡ false → on_character s n ≡ true
 at_on {s} {n} [] w h e = let z : n ≡ length s = omega (arith, at_inside h) in rw z (on_end s)
 at_on {s} {n} (x ∷ xs) w h e =
-    let u : utf8_of s ≡ WellFormed = rw w.same at (utf8_accepts w.chars) in
+    let u : utf8_of s ≡ Ok tt = rw w.same at (utf8_accepts w.chars) in
     rw (on_byte s n u (omega (arith, at_inside h)), at_get h, e)
 
 pub on_start : (s : List ℕ) → on_character s 0 ≡ true

@@ -7,21 +7,18 @@ use lib.Dec.{T, eqb, eqb→eq}
 use lib.Ieee.Fits.{and_l, and_r}
 use lib.Ieee.{binary64, round, of_bits, of_int, lt, le, add, sub, mul, div, rem, neg}
 use Rattle.text_bytes.specs.Bytes.{within}
-use Rattle.text_bytes.specs.Moves.{place}
 use Rattle.stream.specs.Faults.{consume_byte, parse_list_separator}
-use Rattle.text_bytes.specs.Flow.{bind}
 use Rattle.text_bytes.specs.Scan.{scan, run}
-use Rattle.text_bytes.specs.Words.{ascii, same, lower_of, part, is_curr_byte_eq}
+use Rattle.text_bytes.specs.Words.{same, lower_of, part, is_curr_byte_eq}
 use Rattle.floats.specs.Floats.{narrowed, channel_of}
 use Rattle.numbers.specs.Digits.{value}
 use Rattle.numbers.specs.Powers.{power_of, power_bits, hundred}
-use Rattle.numbers.specs.Number.{parse_number, parse_number_or_percent, parse_list_number, parse_list_number_or_percent, after_item, number_from, finished, scaled, value_of, scale_of, exponent_at, exponent_from, mantissa_at, mantissa_dot, after_sign}
+use Rattle.numbers.specs.Number.{parse_number, parse_number_or_percent, parse_list_number, parse_list_number_or_percent, number_from, finished, scaled, value_of, signed, scale_of, exponent_at, exponent_from, mantissa_at, mantissa_dot, after_sign}
 use Rattle.color.specs.Hsl.{hue_to_rgb, hsl_to_rgb, hsl_color}
-use Rattle.color.specs.Color.{rgba, after_number, close_bracket, parse_alpha, rgb_marked, rgb_plain, rgb_rest, parse_rgb, hsl_rest, parse_hsl, is_rgb, is_hsl, parse_word, parse_color}
+use Rattle.color.specs.Color.{close_bracket, parse_alpha, rgb_marked, rgb_plain, rgb_rest, parse_rgb, hsl_rest, parse_hsl, is_rgb, is_hsl, parse_word, parse_color}
+use Rattle.color.specs.Hex.{rgba}
 use Rattle.text_bytes.proofs.Ranges.{all_from, across}
 use Rattle.color.specs.declared.Color.{Color}
-use Rattle.color.specs.declared.ColorRead.{ColorRead}
-use Rattle.color.specs.declared.ColorRead.TheVariants as C
 use Rattle.standards.specs.CssColor3 as K
 use Rattle.standards.specs.CssColor3.{Integer, as_number, size, degrees, Channels, hue_channel, document_hsl}
 use Rattle.standards.specs.Ieee754.{double}
@@ -29,32 +26,10 @@ use Rattle.standards.specs.CssValues3.{is_minus, exactly}
 use Rattle.standards.specs.Domain.{InDomain}
 use Rattle.standards.specs.Answers.{portion}
 use Rattle.standards.proofs.Clipped.{integer_double, hue_as}
-
--- a colour, and the place after n bytes
-abbrev read : ℕ → ℕ → ℕ → ℕ → ℕ → ColorRead
-read r g b a n = C.Value (rgba r g b a) (place n)
-
--- THEOREM. What the document shows is what is read (0.5 and 0.1 of 255 are 127.5 and 25.5, of which the document does not say how they are rounded).
-pub record Examples : Type 0 where
-  pub integers : parse_color (ascii "rgb(255,0,0)") 0 ≡ read 255 0 0 255 12
-  pub percentages : parse_color (ascii "rgb(100%, 0%, 0%)") 0 ≡ read 255 0 0 255 17
-  pub above : parse_color (ascii "rgb(300,0,0)") 0 ≡ read 255 0 0 255 12
-  pub below : parse_color (ascii "rgb(255,-10,0)") 0 ≡ read 255 0 0 255 14
-  pub above_percent : parse_color (ascii "rgb(110%, 0%, 0%)") 0 ≡ read 255 0 0 255 17
-  pub solid : parse_color (ascii "rgba(255,0,0,1)") 0 ≡ read 255 0 0 255 15
-  pub half : parse_color (ascii "rgba(0,0,255,0.5)") 0 ≡ read 0 0 255 128 17
-  pub tenth : parse_color (ascii "rgba(100%, 50%, 0%, 0.1)") 0 ≡ read 255 128 0 26 24
-  pub nothing : parse_color (ascii "rgba(0,0,0,0)") 0 ≡ read 0 0 0 0 13
-  pub hsl_half : parse_color (ascii "hsla(240, 100%, 50%, 0.5)") 0 ≡ read 0 0 255 128 25
-  pub hsl_tenth : parse_color (ascii "hsla(30, 100%, 50%, 0.1)") 0 ≡ read 255 128 0 26 24
-  pub red : parse_color (ascii "hsl(0, 100%, 50%)") 0 ≡ read 255 0 0 255 17
-  pub lime : parse_color (ascii "hsl(120, 100%, 50%)") 0 ≡ read 0 255 0 255 19
-  pub dark_green : parse_color (ascii "hsl(120, 100%, 25%)") 0 ≡ read 0 128 0 255 19
-  pub light_green : parse_color (ascii "hsl(120, 100%, 75%)") 0 ≡ read 128 255 128 255 19
-  pub pastel_green : parse_color (ascii "hsl(120, 75%, 75%)") 0 ≡ read 143 239 143 255 18
+use Rattle.standards.specs.Worked.{Examples, Algorithm}
 
 pub examples : Examples
-unfolding parse_color parse_word part same lower_of within is_rgb is_hsl parse_rgb rgb_rest rgb_marked rgb_plain after_number parse_hsl hsl_rest parse_alpha close_bracket consume_byte hsl_color hsl_to_rgb hue_to_rgb narrowed channel_of parse_number parse_number_or_percent parse_list_number parse_list_number_or_percent after_item parse_list_separator number_from finished scaled value_of scale_of exponent_at exponent_from mantissa_at mantissa_dot after_sign value scan run bind is_curr_byte_eq power_of power_bits round mul div add sub rem neg lt le of_int of_bits
+unfolding parse_color parse_word part same lower_of within is_rgb is_hsl parse_rgb rgb_rest rgb_marked rgb_plain parse_hsl hsl_rest parse_alpha close_bracket consume_byte hsl_color hsl_to_rgb hue_to_rgb narrowed channel_of parse_number parse_number_or_percent parse_list_number parse_list_number_or_percent parse_list_separator number_from finished scaled value_of signed scale_of exponent_at exponent_from mantissa_at mantissa_dot after_sign value scan run is_curr_byte_eq power_of power_bits round mul div add sub rem neg lt le of_int of_bits
 examples =
     record {
       integers = refl;
@@ -74,14 +49,6 @@ examples =
       light_green = refl;
       pastel_green = refl;
     }
-
--- THEOREM. Its algorithm for hsl() gives those of section 4.2.4 as well.
-pub record Algorithm : Type 0 where
-  pub red : document_hsl 0 100 50 ≡ record { red = 255; green = 0; blue = 0 }
-  pub lime : document_hsl 120 100 50 ≡ record { red = 0; green = 255; blue = 0 }
-  pub dark_green : document_hsl 120 100 25 ≡ record { red = 0; green = 128; blue = 0 }
-  pub light_green : document_hsl 120 100 75 ≡ record { red = 128; green = 255; blue = 128 }
-  pub pastel_green : document_hsl 120 75 75 ≡ record { red = 143; green = 239; blue = 143 }
 
 pub algorithm : Algorithm
 unfolding hue_channel K.scaled

@@ -12,14 +12,26 @@ use lib.ListN.{length, get_or, drop, length-append, length-map, length-drop}
 use lib.Seq.{get_or-drop, drop-drop, drop-append_seam, drop-append-add, take_at}
 use Rattle.text_bytes.specs.Bytes.{is_space}
 use Rattle.text_bytes.specs.Moves.{place}
+use Rattle.text_bytes.specs.declared.Place.{Place}
 use Rattle.stream.specs.Faults.{consume_byte, consume_string}
 use Rattle.text_bytes.specs.Scan.{run, scan}
 use Rattle.text_bytes.specs.Words.{starts_with, same, part, is_curr_byte_eq}
-use Rattle.stream.specs.declared.Consumed.TheVariants as C
 use Rattle.text_bytes.proofs.Ranges.{either, and_false}
 use Rattle.text_bytes.proofs.Wording.{same_eq}
+use Rattle.std.specs.Prelude.{Result, Ok, Err}
+use Rattle.stream.specs.declared.Fault.{Fault}
+use Rattle.stream.specs.declared.Read.{Read}
 use Rattle.standards.specs.CssValues3.{Blank, blank, blanks}
+use Rattle.standards.specs.Answers.{read_on}
 use Rattle.standards.proofs.Runs.{run_map, blank_is}
+
+-- what was read is one value
+abbrev value_or : {A : Type 0} → A → Result (Read A) Fault → A
+value_or a (Ok r) = r.value
+value_or a (Err e) = a
+
+pub one_value : {A : Type 0} {a b : A} {p q : Place} → read_on a p ≡ read_on b q → a ≡ b
+one_value {a} e = ap (λ r. value_or a r) e
 
 -- a word begins where it stands, and none where its first byte is not
 pub starts_joined : (w rest : List ℕ) → starts_with w (w ++ rest) ≡ true
@@ -66,7 +78,7 @@ module _ (s : List ℕ) (i : ℕ) where
     unfolding is_curr_byte_eq
     curr_is = simp (lt-ltb i (length s) here, byte_here (c ∷ rest) h, eq-eqb c c refl)
 
-    pub consumed : consume_byte s i c ≡ C.Next (place (i + 1))
+    pub consumed : consume_byte s i c ≡ Ok (place (i + 1))
     unfolding consume_byte
     consumed = simp (lt-leb (length s) i here, byte_here (c ∷ rest) h, eq-eqb c c refl)
 
@@ -75,7 +87,7 @@ module _ (s : List ℕ) (i : ℕ) where
     scanned_none p q = scan_on (c ∷ rest) h p 0 (simp q) ∙ add-zero i
 
   -- a word that begins with c
-  pub consumed_word : (c : ℕ) (cs rest : List ℕ) → drop i s ≡ c ∷ (cs ++ rest) → consume_string s i (c ∷ cs) ≡ C.Next (place (i + suc (length cs)))
+  pub consumed_word : (c : ℕ) (cs rest : List ℕ) → drop i s ≡ c ∷ (cs ++ rest) → consume_string s i (c ∷ cs) ≡ Ok (place (i + suc (length cs)))
   unfolding consume_string
   consumed_word c cs rest h = simp (lt-leb (length s) i (here c (cs ++ rest) h), h, starts_joined (c ∷ cs) rest)
 
@@ -155,7 +167,7 @@ module _ {s : List ℕ} {i : ℕ} where
   pub at_still : {b : List ℕ} → is_space (get_or b 0 0) ≡ false → At s i b → scan is_space s i ≡ i
   at_still {b} e h = at_spaces [] b e h ∙ add-zero i
 
-  pub at_byte : (c : ℕ) (b : List ℕ) → At s i (c ∷ b) → consume_byte s i c ≡ C.Next (place (i + 1))
+  pub at_byte : (c : ℕ) (b : List ℕ) → At s i (c ∷ b) → consume_byte s i c ≡ Ok (place (i + 1))
   at_byte c b h = consumed s i c b (at_drop h)
 
   pub at_curr : (c : ℕ) (b : List ℕ) → At s i (c ∷ b) → is_curr_byte_eq s i c ≡ true

@@ -15,19 +15,19 @@ use Rattle.text_bytes.specs.Scan.{scan}
 use Rattle.text_bytes.specs.Words.{is_curr_byte_eq}
 use Rattle.text_bytes.specs.declared.Place.{Place}
 use Rattle.floats.proofs.Bounds.{is_finite, round_within}
-use Rattle.numbers.specs.Decimal.{Decimal, written, nearest}
+use Rattle.numbers.specs.Decimal.{written, nearest}
 use Rattle.numbers.specs.Digits.{cap}
 use Rattle.numbers.specs.Number.{after_sign, mantissa_at, exponent_at, value_of, parse_number, parse_number_or_percent}
 use Rattle.numbers.specs.Powers.{hundred}
-use Rattle.numbers.specs.declared.Number.{Number}
-use Rattle.numbers.specs.declared.NumberRead.TheVariants as N
+use Rattle.numbers.specs.Moves.{Number}
 use Rattle.numbers.proofs.Nearest.{value_nearest, number_nearest, number_finite}
 use Rattle.standards.specs.Ieee754.{Fraction, parameters, RoundsTo, double}
 use Rattle.standards.specs.CssValues3 as Css
 use Rattle.standards.specs.CssValues3.{exactly, joined, fraction_digits, power, falls}
 use Rattle.standards.specs.Domain.{Near, InDomain}
-use Rattle.standards.specs.Answers.{Hundredth}
+use Rattle.standards.specs.Answers.{Hundredth, read_on}
 use Rattle.standards.proofs.Rounding.{round_rounds, double_rounds, div_rounds}
+use Rattle.standards.specs.Notations.{fraction}
 
 ten_pos : (k : ℕ) → 0 < 10 ^ k
 ten_pos k = one-le-pow k 10 (lit< tt)
@@ -43,10 +43,6 @@ unfolding nearest
 value_rounds minus m down by h l =
     rw (value_nearest minus m down by h l) (round_rounds binary64 (record { minus = minus; over = cond down m (m * 10 ^ by); under = cond down (10 ^ by) 1 }) (moved_pos down by))
 
--- what is written at a place of a text, as a fraction
-abbrev pub fraction : Decimal → Fraction
-fraction d = record { minus = d.minus; over = d.over; under = d.under }
-
 written_under : (s : List ℕ) (i : ℕ) → 0 < (written s i).under
 unfolding written
 written_under s i =
@@ -60,20 +56,20 @@ hundredth q lib.Ieee.nan t h = elim t [ ]
 hundredth q (lib.Ieee.inf _) t h = elim t [ ]
 hundredth q (fin s m e) t h = record { s = s; m = m; e = e; first = h; second = div_rounds binary64 s m e false 25 (pos 2) (lit< tt) }
 
-module _ (s : List ℕ) (i : ℕ) (n : Number) (p : Place) (read : parse_number s i ≡ N.Value n p) where
+module _ (s : List ℕ) (i : ℕ) (n : Number) (p : Place) (read : parse_number s i ≡ read_on n p) where
   -- THEOREM. Whatever number is read is the double nearest to the decimal that is written,
   pub number_rounds : RoundsTo (parameters binary64) (fraction (written s (scan is_space s i))) n.value
   unfolding nearest
-  number_rounds = rw (number_nearest s i n p read) (round_rounds binary64 (fraction (written s (scan is_space s i))) (written_under s (scan is_space s i)))
+  number_rounds = rw (number_nearest s i (record { value = n; next = p }) read) (round_rounds binary64 (fraction (written s (scan is_space s i))) (written_under s (scan is_space s i)))
 
   -- THEOREM. and with a `%` (37) after it, the hundredth.
   pub percent_rounds : is_curr_byte_eq s p.0 37 ≡ true
-      → (x : Number) × (parse_number_or_percent s i ≡ N.Value x (place (p.0 + 1))) × Hundredth (fraction (written s (scan is_space s i))) x.value
+      → (x : Number) × (parse_number_or_percent s i ≡ read_on x (place (p.0 + 1))) × Hundredth (fraction (written s (scan is_space s i))) x.value
   unfolding parse_number_or_percent
   percent_rounds h = (
     record { value = div binary64 n.value hundred; whole = n.whole; end = n.end },
     rw (read, h),
-    hundredth (fraction (written s (scan is_space s i))) n.value (number_finite s i n p read) number_rounds,
+    hundredth (fraction (written s (scan is_space s i))) n.value (number_finite s i (record { value = n; next = p }) read) number_rounds,
   )
 
 -- the same for the numbers of the grammar

@@ -5,22 +5,20 @@ use mathlib.Core.List.{List, [], ◌∷◌, ◌++◌, append_assoc, append-nil}
 use mathlib.Core.Path.{◌≡◌, refl, sym}
 use native.Mathlib.Nat.{zero-add}
 use native.Mathlib.Omega.{arith}
-use borrow.Author.Tests.{le-leb, lt-leb}
-use lib.Dec.{leb}
+use borrow.Author.Tests.{le-leb, le-ltb, lt-leb}
+use lib.Dec.{leb, ltb}
 use lib.ListN.{length, length-append, length-map}
 use Rattle.text_bytes.specs.Bytes.{is_space, within}
 use Rattle.text_bytes.specs.Moves.{place}
-use Rattle.text_bytes.specs.Flow.{bind}
 use Rattle.text_bytes.specs.Scan.{scan}
 use Rattle.text_bytes.specs.Words.{ascii, part}
 use Rattle.text_bytes.specs.declared.Part.{Part}
 use Rattle.text_bytes.specs.declared.Place.{Place}
 use Rattle.color.specs.declared.Color.{Color}
 use Rattle.funciri.specs.Link.{link_at, link_bytes}
-use Rattle.filter_functions.specs.Filters.{parse_step, after_none, next_filter}
-use Rattle.filter_functions.specs.declared.FilterStep.TheVariants as O
+use Rattle.filter_functions.specs.Filters.{value_step, end_step, none_step, listed, parse_step, after_none, next_filter}
 use Rattle.filter_functions.specs.declared.FilterValue.TheVariants as G
-use Rattle.filter_functions.specs.declared.StepRead.TheVariants as S
+use Rattle.filter_functions.specs.declared.Listed.TheVariants as I
 use Rattle.joins.specs.Joins.{follow, from, answers}
 use Rattle.standards.specs.CssValues3.{Blank, blank, blanks}
 use Rattle.standards.specs.CssSyntax3.{UrlCharacter, written}
@@ -45,8 +43,8 @@ module _ (before after : List Blank) where
   unfolding none_text
   none_written = written_append (blanks_written before) (written_append (ascii_written (ascii "none") refl) (blanks_written after))
 
-  none_parsed : parse_step (none_text before after) 0 ≡ S.NoneWord
-  unfolding parse_step after_none none_text bind
+  none_parsed : parse_step (none_text before after) 0 ≡ listed I.NoneWord (length (none_text before after))
+  unfolding parse_step after_none none_text
   none_parsed =
       let n = length before in
       let y = ascii "none" ++ blanks after in
@@ -56,24 +54,24 @@ module _ (before after : List Blank) where
       let c : At s (n + 4) (blanks after) = at_step (ascii "none") (blanks after) b in
       let d : scan is_space s (n + 4) ≡ n + 4 + length after = at_spaces after [] refl (rw append-nil c) in
       let e : leb (length s) n ≡ false = lt-leb (length s) n (omega (arith, at_inside b)) in
-      let f : leb (length s) (n + 4 + length after) ≡ true = le-leb (length s) (n + 4 + length after) (omega (arith, at_inside c, length-map after blank)) in
+      let f : ltb (n + 4 + length after) (length s) ≡ false = le-ltb (n + 4 + length after) (length s) (omega (arith, at_inside c, length-map after blank)) in
       simp (a, e, at_drop b, starts_joined (ascii "none") (blanks after), d, f)
 
   module _ (fits : length (none_text before after) ≤ 4096) where
-    none_next : next_filter (none_text before after) 0 ≡ O.NoneWord (place (length (none_text before after)))
+    none_next : next_filter (none_text before after) 0 ≡ none_step (place (length (none_text before after)))
     none_next = rw (next_edged (none_text before after) fits none_written 0 (on_start (none_text before after)), none_parsed)
 
     -- THEOREM: no value, and the end,
-    pub none_read : answers next_filter (none_text before after) 0 ≡ O.NoneWord (place (length (none_text before after))) ∷ []
+    pub none_read : answers next_filter (none_text before after) 0 ≡ none_step (place (length (none_text before after))) ∷ []
     unfolding answers
     none_read = alone (length (none_text before after)) none_next
       where
-        alone : (k : ℕ) {p : Place} → next_filter (none_text before after) 0 ≡ O.NoneWord p → from next_filter k (none_text before after) 0 ≡ O.NoneWord p ∷ []
+        alone : (k : ℕ) {p : Place} → next_filter (none_text before after) 0 ≡ none_step p → from next_filter k (none_text before after) 0 ≡ none_step p ∷ []
         alone zero e = unfold from in rw e
         alone (suc k) e = unfold from follow in rw e
 
     -- and from there on the end again
-    pub none_ends : next_filter (none_text before after) (length (none_text before after)) ≡ O.End (place (length (none_text before after)))
+    pub none_ends : next_filter (none_text before after) (length (none_text before after)) ≡ end_step (place (length (none_text before after)))
     unfolding within
     none_ends =
         let s = none_text before after in
@@ -105,7 +103,7 @@ module _ (l m : List Blank) (c : UrlCharacter) (cs : List UrlCharacter) (spaces 
         → let t = link_item l c cs m spaces in
         let n = length leading + length (E.items_text colour ts) in
         let s = blanks leading ++ E.items_text colour (ts ++ (t ∷ us)) in
-        length s ≤ 4096 → (p : Part) × ((next_filter s n ≡ O.Value (G.Url p) (place (n + length (E.item_text colour t)))) × (link_bytes s p ≡ written (c ∷ cs)))
+        length s ≤ 4096 → (p : Part) × ((next_filter s n ≡ value_step (G.Url p) (place (n + length (E.item_text colour t)))) × (link_bytes s p ≡ written (c ∷ cs)))
     unfolding value E.effect E.items_text
     link_step leading ts us w fits =
         let t = link_item l c cs m spaces in

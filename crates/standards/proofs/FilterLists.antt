@@ -4,30 +4,29 @@ use mathlib.Core.Bool.{true, false}
 use mathlib.Core.List.{List, [], ◌∷◌, ◌++◌, append_assoc, append-nil}
 use mathlib.Core.Path.{◌≡◌, refl, sym, ap, ◌∙◌}
 use native.Mathlib.Omega.{arith}
-use borrow.Author.Tests.{lt-leb}
+use borrow.Author.Tests.{le-leb, lt-leb}
 use lib.ListN.{length, get_or, length-append, length-map}
 use Rattle.text_bytes.specs.Bytes.{is_space, is_tail, within}
 use Rattle.utf8.specs.Characters.{on_character}
 use Rattle.text_bytes.specs.Moves.{place}
-use Rattle.text_bytes.specs.Flow.{bind}
 use Rattle.stream.specs.Refusals.{admit_place}
-use Rattle.text_bytes.specs.Scan.{scan, run}
+use Rattle.text_bytes.specs.Scan.{scan}
 use Rattle.text_bytes.specs.Words.{ascii, starts_with}
 use Rattle.color.specs.declared.Color.{Color}
-use Rattle.filter_functions.specs.Filters.{parse_step, edged, step_of, next_filter}
-use Rattle.filter_functions.specs.Moves.{move_filter_value, move_step_read}
-use Rattle.filter_functions.specs.declared.FilterStep.{FilterStep}
-use Rattle.filter_functions.specs.declared.FilterStep.TheVariants as O
-use Rattle.filter_functions.specs.declared.StepRead.{StepRead}
-use Rattle.filter_functions.specs.declared.StepRead.TheVariants as S
-use Rattle.filter_functions.proofs.Shifts.{step_shift}
+use Rattle.stream.specs.Steps.{edged}
+use Rattle.filter_functions.specs.Filters.{value_step, end_step, listed, parse_step, next_filter}
+use Rattle.filter_functions.specs.Moves.{move_filter_value}
+use Rattle.filter_functions.specs.Filters.{FilterStep}
+use Rattle.filter_functions.specs.declared.Listed.TheVariants as I
+use Rattle.filter_functions.proofs.Shifts.{move_step_read, step_shift}
+use Rattle.stream.specs.Moves.{moved}
 use Rattle.filter_functions.proofs.Values.{step_spaces}
 use Rattle.joins.specs.Joins.{Next, follow, from, answers}
 use Rattle.standards.specs.CssValues3.{Blank, blanks}
 use Rattle.standards.specs.FilterEffects1 as E
 use Rattle.standards.specs.FilterEffects1.{Simple, brightness, contrast, grayscale, invert, opacity, saturate, sepia, simple_name}
 use Rattle.standards.specs.Domain.{Taken, AllTaken}
-use Rattle.standards.specs.Answers.{simple_value, value, link_place, handed}
+use Rattle.standards.specs.Answers.{read_on, simple_value, value, link_place, handed}
 use Rattle.standards.proofs.Reading.{NumbersRead}
 use Rattle.standards.proofs.Cursors.{At, at_start, at_step, at_blanks, at_read, at_spaces, at_still, at_inside}
 use Rattle.standards.proofs.Characters.{at_on, on_start}
@@ -100,8 +99,8 @@ module _ {Colour : Type 0} (colour : Colour → List ℕ) where
 module _ (r : NumbersRead) {Colour : Type 0} {colour : Colour → List ℕ} {channels : Colour → Color} (coloured : Coloured colour channels) where
   -- THEOREM: a function at the front of a text is the step's value, and the white space after it is passed
   pub step_front : (t : E.Item Colour) (rest : List ℕ) → Taken t.function.content t.function.after → is_space (get_or rest 0 0) ≡ false
-      → parse_step (E.item_text colour t ++ rest) 0 ≡ S.Value (value channels (link_place t.function) (E.meaning t.function)) (place (length (E.item_text colour t)))
-  unfolding E.item_text parse_step bind
+      → parse_step (E.item_text colour t ++ rest) 0 ≡ read_on (I.Value (value channels (link_place t.function) (E.meaning t.function))) (place (length (E.item_text colour t)))
+  unfolding E.item_text parse_step
   step_front t rest w e =
       let f = E.function_text colour t.function in
       let b = blanks t.spaces ++ rest in
@@ -111,21 +110,20 @@ module _ (r : NumbersRead) {Colour : Type 0} {colour : Colour → List ℕ} {cha
       let l : 0 < length (f ++ b) = omega (arith, function_long colour t.function, length-append f b) in
       let y : length f + length t.spaces ≡ length (f ++ blanks t.spaces) = simp (length-append, length-map) in
       let c : At (f ++ b) (length f) b = rw z at (at_step f b a) in
-      rw append_assoc (simp (at_still n.unspaced a, lt-leb (length (f ++ b)) 0 l, n.no_none)
-      (function_read r coloured t.function b w StepRead S.Refused (λ v p. S.Value v (place (scan is_space (f ++ b) p.0))) ∙ simp (at_spaces t.spaces rest e c, y)))
+      rw append_assoc (simp (at_still n.unspaced a, lt-leb (length (f ++ b)) 0 l, n.no_none, function_read r coloured t.function b w, at_spaces t.spaces rest e c, y))
 
   -- the same at place n of a list
   pub step_at : {s : List ℕ} {n : ℕ} (t : E.Item Colour) (ts : List (E.Item Colour)) → Taken t.function.content t.function.after
       → At s n (E.item_text colour t ++ E.items_text colour ts)
-      → parse_step s n ≡ S.Value (value channels (n + link_place t.function) (E.meaning t.function)) (place (n + length (E.item_text colour t)))
+      → parse_step s n ≡ read_on (I.Value (value channels (n + link_place t.function) (E.meaning t.function))) (place (n + length (E.item_text colour t)))
   step_at {s} {n} t ts w h =
-      at_read parse_step move_step_read (λ a b i. step_shift a b i) h
+      at_read parse_step (moved move_step_read) (λ a b i. step_shift a b i) h
       ∙ rw (step_front t (E.items_text colour ts) w (items_unspaced colour ts), value_move channels n (link_place t.function) (E.meaning t.function))
 
 -- nothing is left
-pub step_none : {s : List ℕ} {n : ℕ} → At s n [] → parse_step s n ≡ S.End
-unfolding parse_step scan run bind
-step_none h = at_read parse_step move_step_read (λ a b i. step_shift a b i) h
+pub step_none : {s : List ℕ} {n : ℕ} → At s n [] → parse_step s n ≡ listed I.End (length s)
+unfolding parse_step
+step_none {s} {n} h = simp (at_still refl h, le-leb (length s) n (omega (arith, at_inside h)))
 
 pub items_append : {Colour : Type 0} (colour : Colour → List ℕ) (ts us : List (E.Item Colour)) → E.items_text colour (ts ++ us) ≡ E.items_text colour ts ++ E.items_text colour us
 unfolding E.items_text
@@ -137,7 +135,7 @@ module _ (r : NumbersRead) {Colour : Type 0} {colour : Colour → List ℕ} {cha
   pub list_step : (l : List Blank) (ts : List (E.Item Colour)) (t : E.Item Colour) (us : List (E.Item Colour)) → Taken t.function.content t.function.after
       → let n = length l + length (E.items_text colour ts) in
       parse_step (blanks l ++ E.items_text colour (ts ++ (t ∷ us))) n
-      ≡ S.Value (value channels (n + link_place t.function) (E.meaning t.function)) (place (n + length (E.item_text colour t)))
+      ≡ read_on (I.Value (value channels (n + link_place t.function) (E.meaning t.function))) (place (n + length (E.item_text colour t)))
   unfolding E.items_text
   list_step l ts t us w =
       let a = E.items_text colour ts in
@@ -146,13 +144,13 @@ module _ (r : NumbersRead) {Colour : Type 0} {colour : Colour → List ℕ} {cha
       let h : At (blanks l ++ (a ++ b)) (length l + length a) b = at_step a b (rw z at (at_blanks l (a ++ b) (at_start (blanks l ++ (a ++ b))))) in
       rw (items_append colour ts (t ∷ us)) (step_at r coloured t us w h)
 
-pub list_end : (s : List ℕ) → parse_step s (length s) ≡ S.End
+pub list_end : (s : List ℕ) → parse_step s (length s) ≡ listed I.End (length s)
 list_end s = step_none (record { before = s; text = sym (append-nil s); here = refl })
 
 -- the outside step of a text, where a character starts
 module _ (s : List ℕ) (small : length s ≤ 4096) (whole : Written s) where
   pub next_edged : (n : ℕ) → on_character s n ≡ true → next_filter s n ≡ edged s (parse_step s n)
-  unfolding next_filter step_of admit_place
+  unfolding next_filter admit_place
   next_edged n h = simp (written_admitted s whole small, h)
 
 items_long : {Colour : Type 0} (colour : Colour → List ℕ) (ts : List (E.Item Colour)) → length ts ≤ length (E.items_text colour ts)
@@ -163,7 +161,7 @@ items_long colour (t ∷ ts) = simp length-append (omega (arith, items_long colo
 module _ (r : NumbersRead) {Colour : Type 0} {colour : Colour → List ℕ} {channels : Colour → Color} (coloured : Coloured colour channels) where
   module _ (s : List ℕ) (small : length s ≤ 4096) (whole : Written s) where
     items_read : (k n : ℕ) (ts : List (E.Item Colour)) → AllTaken ts → length ts ≤ k → At s n (E.items_text colour ts)
-        → from next_filter k s n ≡ handed channels colour n ts ++ (O.End (place (length s)) ∷ [])
+        → from next_filter k s n ≡ handed channels colour n ts ++ (end_step (place (length s)) ∷ [])
     unfolding from follow handed E.items_text
     items_read zero n [] w l h = rw (next_edged s small whole n (at_on [] whole h (items_begin colour [])), step_none h)
     items_read (suc k) n [] w l h = rw (next_edged s small whole n (at_on [] whole h (items_begin colour [])), step_none h)
@@ -171,7 +169,7 @@ module _ (r : NumbersRead) {Colour : Type 0} {colour : Colour → List ℕ} {cha
     items_read (suc k) n (t ∷ ts) w l h =
         let e = n + length (E.item_text colour t) in
         rw (next_edged s small whole n (at_on (E.items_text colour (t ∷ ts)) whole h (items_begin colour (t ∷ ts))), step_at r coloured t ts w.0 h)
-        (ap (λ (x : List FilterStep). O.Value (value channels (n + link_place t.function) (E.meaning t.function)) (place e) ∷ x)
+        (ap (λ (x : List FilterStep). value_step (value channels (n + link_place t.function) (E.meaning t.function)) (place e) ∷ x)
         (items_read k e ts w.1 (omega arith) (at_step (E.item_text colour t) (E.items_text colour ts) h)))
 
 from_same : (next : Next) (k : ℕ) (s : List ℕ) (i j : ℕ) → next s i ≡ next s j → from next k s i ≡ from next k s j
@@ -182,7 +180,7 @@ from_same next (suc k) s i j e = rw e
 module _ (r : NumbersRead) {Colour : Type 0} {colour : Colour → List ℕ} {channels : Colour → Color} (coloured : Coloured colour channels) where
   -- THEOREM: a list of the grammar hands out the effects of its functions, in order, and then ends
   pub list_read : (l : E.FilterValueList Colour) → AllTaken (l.first ∷ l.others) → length (E.list_text colour l) ≤ 4096
-      → answers next_filter (E.list_text colour l) 0 ≡ handed channels colour (length l.leading) (l.first ∷ l.others) ++ (O.End (place (length (E.list_text colour l))) ∷ [])
+      → answers next_filter (E.list_text colour l) 0 ≡ handed channels colour (length l.leading) (l.first ∷ l.others) ++ (end_step (place (length (E.list_text colour l))) ∷ [])
   unfolding answers E.list_text
   list_read l w small =
       let whole = list_written coloured l in

@@ -11,28 +11,27 @@ use lib.ListN.{length, get_or, length-append, length-map}
 use Rattle.text_bytes.specs.Bytes.{is_space, is_lower, within}
 use Rattle.text_bytes.specs.Moves.{place}
 use Rattle.stream.specs.Faults.{parse_list_separator}
-use Rattle.text_bytes.specs.Flow.{bind}
+use Rattle.text_bytes.specs.Flow.{◌>>=◌}
 use Rattle.text_bytes.specs.Scan.{scan}
 use Rattle.text_bytes.specs.Words.{ascii, same, lower_of}
 use Rattle.text_bytes.specs.declared.Place.{Place}
 use Rattle.text_bytes.proofs.Ranges.{all_from, across}
-use Rattle.numbers.specs.Moves.{then_number}
 use Rattle.numbers.specs.Number.{parse_number, parse_number_or_percent, after_item, parse_list_number, parse_list_number_or_percent}
-use Rattle.numbers.specs.declared.Number as R
-use Rattle.numbers.specs.declared.NumberRead.{NumberRead}
-use Rattle.numbers.specs.declared.NumberRead.TheVariants as N
+use Rattle.numbers.specs.Moves as R
 use Rattle.floats.specs.Floats.{channel_of}
-use Rattle.color.specs.Color.{rgba, scaled_channel, close_bracket, parse_alpha, rgb_marked, rgb_plain, after_number, rgb_rest, parse_rgb, hsl_rest, parse_hsl, is_rgb, is_hsl, named_color, parse_color}
+use Rattle.color.specs.Color.{scaled_channel, close_bracket, parse_alpha, rgb_marked, rgb_plain, rgb_rest, parse_rgb, hsl_rest, parse_hsl, is_rgb, is_hsl, named_color, parse_color}
+use Rattle.color.specs.Hex.{rgba}
 use Rattle.color.specs.Hsl.{hsl_color}
 use Rattle.color.specs.declared.Color.{Color}
-use Rattle.color.specs.declared.ColorRead.{ColorRead}
-use Rattle.color.specs.declared.ColorRead.TheVariants as C
+use Rattle.std.specs.Prelude.{Ok, Result}
+use Rattle.stream.specs.declared.Fault.{Fault}
+use Rattle.stream.specs.declared.Read.{Read}
 use Rattle.standards.specs.Ieee754.{double}
 use Rattle.standards.specs.CssValues3.{Blank, space, tab, line_feed, return, blank, blanks, Number, number, exactly, percentage}
 use Rattle.standards.specs.CssColor3.{Spelling, spelling, Integer, as_number, integer, Spaced, spaced, Rgb, integers, percentages, Hsl, rgb_values, hsl_values, Functional, functional, channel}
 use Rattle.standards.specs.CssColor3 as K
 use Rattle.standards.specs.Domain.{InDomain, RgbInDomain, HslInDomain, AllInDomain}
-use Rattle.standards.specs.Answers.{Ends, portion, hsl_of}
+use Rattle.standards.specs.Answers.{Ends, portion, hsl_of, read_on}
 use Rattle.standards.proofs.Reading.{ends_comma, ends_bracket, ends_percent, ends_blank, NumbersRead, number_there, percent_there}
 use Rattle.standards.proofs.Runs.{every, number_first}
 use Rattle.standards.proofs.Cursors.{At, at_step, at_blanks, at_spaces, at_byte, at_curr, at_other, at_more, at_drop, curr_not}
@@ -41,21 +40,21 @@ use Rattle.standards.proofs.Colours.{letters, word_first}
 use Rattle.standards.proofs.Clipped.{integer_channel}
 
 -- A number is read, and the text goes on with `rest` from the place after it.
-record Reads (s : List ℕ) (x : NumberRead) (v : Float) (rest : List ℕ) : Type 0 where
+record Reads (s : List ℕ) (x : Result (Read R.Number) Fault) (v : Float) (rest : List ℕ) : Type 0 where
   whole : Bool
   end : Place
   next : ℕ
-  is : x ≡ N.Value (record { value = v; whole = whole; end = end }) (place next)
+  is : x ≡ read_on (record { value = v; whole = whole; end = end }) (place next)
   from : At s next rest
 
 -- A colour is read, and the text goes on with `rest` from the place after it.
-record Gives (s : List ℕ) (x : ColorRead) (c : Color) (rest : List ℕ) : Type 0 where
+record Gives (s : List ℕ) (x : Result (Read Color) Fault) (c : Color) (rest : List ℕ) : Type 0 where
   next : ℕ
-  is : x ≡ C.Value c (place next)
+  is : x ≡ read_on c (place next)
   from : At s next rest
 
-then_gives : {s : List ℕ} {x : NumberRead} {v : Float} {b : List ℕ} (r : Reads s x v b) {c : Color} {rest : List ℕ} (k : R.Number → Place → ColorRead)
-    → ((w : Bool) (e : Place) (j : ℕ) → At s j b → Gives s (k (record { value = v; whole = w; end = e }) (place j)) c rest) → Gives s (then_number C.Refused x k) c rest
+then_gives : {s : List ℕ} {x : Result (Read R.Number) Fault} {v : Float} {b : List ℕ} (r : Reads s x v b) {c : Color} {rest : List ℕ} (k : Read R.Number → Result (Read Color) Fault)
+    → ((w : Bool) (e : Place) (j : ℕ) → At s j b → Gives s (k (record { value = record { value = v; whole = w; end = e }; next = place j })) c rest) → Gives s (x >>= k) c rest
 then_gives r k h = rw r.is (h r.whole r.end r.next r.from)
 
 -- white space at the front of a text is skipped
@@ -84,10 +83,9 @@ separated {b} bracket f = rw (at_other 44 (λ e. omega arith) f) f
 passed : {s : List ℕ} {i : ℕ} (l : List Blank) {b rest : List ℕ} → Stop b rest → At s i (blanks l ++ b) → At s (parse_list_separator s (scan is_space s i)) rest
 passed l e f = separated e (skipped l (stop_unspaced e) f)
 
-item_reads : {s : List ℕ} {x : NumberRead} {v : Float} (l : List Blank) {b rest : List ℕ} → Stop b rest → Reads s x v (blanks l ++ b) → Reads s (after_item s x) v rest
-unfolding after_item bind
+item_reads : {s : List ℕ} {x : Result (Read R.Number) Fault} {v : Float} (l : List Blank) {b rest : List ℕ} → Stop b rest → Reads s x v (blanks l ++ b) → Reads s (x >>= (λ read. Ok (record { value = read.value; next = place (after_item s read.next.0) }))) v rest
 item_reads {s} l e r =
-    record { whole = r.whole; end = r.end; next = parse_list_separator s (scan is_space s r.next); is = rw r.is; from = passed l e r.from }
+    record { whole = r.whole; end = r.end; next = after_item s r.next; is = rw r.is; from = passed l e r.from }
 
 -- what may follow a number
 stop_ends : (l : List Blank) {b rest : List ℕ} → Stop b rest → Ends (blanks l ++ b)
@@ -137,13 +135,13 @@ from_spaced text v b f = simp append_assoc at f
 -- A list number ends with its white space and a comma.
 module _ (r : NumbersRead) (v : Spaced Number) (ok : InDomain v.value) {s : List ℕ} {i : ℕ} {b rest : List ℕ} (e : Stop b rest) where
   list_number_reads : At s i (spaced number v ++ b) → Reads s (parse_list_number s i) (double (exactly v.value)) rest
-  unfolding parse_list_number bind
+  unfolding parse_list_number
   list_number_reads f =
       let h : 0 < length (spaced number v ++ b) = simp length-append (omega (arith, stop_some e)) in
       rw (at_more h f) (item_reads v.after e (number_reads r v.value ok v.before (stop_ends v.after e) (from_spaced number v _ f)))
 
   list_percent_reads : At s i (spaced percentage v ++ b) → Reads s (parse_list_number_or_percent s i) (portion v.value) rest
-  unfolding parse_list_number_or_percent bind
+  unfolding parse_list_number_or_percent
   list_percent_reads f =
       let h : 0 < length (spaced percentage v ++ b) = simp length-append (omega (arith, stop_some e)) in
       rw (at_more h f) (item_reads v.after e (percent_reads r v.value ok v.before (simp append_assoc at (from_spaced percentage v _ f))))
@@ -155,14 +153,14 @@ number_none p h t rest =
     is_false (p _) (across (λ c. not (p c)) 43 15 h (get_or (number t ++ rest) 0 0) f.low f.high)
 
 close_gives : {s : List ℕ} {i : ℕ} (c : Color) {rest : List ℕ} → At s i (41 ∷ rest) → Gives s (close_bracket s i c) c rest
-unfolding close_bracket bind
+unfolding close_bracket
 close_gives {s} {i} c f =
     let g = skipped [] refl f in
     record { next = scan is_space s i + 1; is = rw (at_byte 41 _ g); from = at_step (41 ∷ []) _ g }
 
 -- no alpha
 opaque_gives : {s : List ℕ} {i : ℕ} (c : Color) {rest : List ℕ} → At s i (41 ∷ rest) → Gives s (parse_alpha s i c) c rest
-unfolding parse_alpha bind
+unfolding parse_alpha
 opaque_gives c {rest} f =
     let g = skipped [] refl f in
     rw (at_curr 41 rest g) (close_gives c g)
@@ -170,7 +168,7 @@ opaque_gives c {rest} f =
 module _ (r : NumbersRead) where
   alpha_gives : (v : Spaced Number) → InDomain v.value → {s : List ℕ} {i : ℕ} (c : Color) {rest : List ℕ} → At s i (spaced number v ++ (41 ∷ rest))
       → Gives s (parse_alpha s i c) (rgba c.red c.green c.blue (scaled_channel (double (exactly v.value)))) rest
-  unfolding parse_alpha spaced bind
+  unfolding parse_alpha spaced
   alpha_gives v ok c {rest} f =
       let t = v.value in
       let after = blanks v.after ++ (41 ∷ rest) in
@@ -185,7 +183,7 @@ module _ (r : NumbersRead) where
         → ((j : ℕ) → At s j rest
         → Gives s (parse_alpha s j (rgba (channel_of (double (exactly x.value))) (channel_of (double (exactly y.value))) (channel_of (double (exactly z.value))) 255)) c all)
         → Gives s (parse_rgb s i) c all
-    unfolding parse_rgb rgb_rest rgb_plain after_number bind
+    unfolding parse_rgb rgb_rest rgb_plain
     integers_give f tail =
         rw (at_byte 40 _ f)
         (then_gives (number_reads r x.value xo x.before (stop_ends x.after comma) (from_spaced number x _ (at_step (40 ∷ []) _ f))) _ (λ w o j g.
@@ -197,7 +195,7 @@ module _ (r : NumbersRead) where
         → ((j : ℕ) → At s j rest
         → Gives s (parse_alpha s j (rgba (scaled_channel (portion x.value)) (scaled_channel (portion y.value)) (scaled_channel (portion z.value)) 255)) c all)
         → Gives s (parse_rgb s i) c all
-    unfolding parse_rgb rgb_rest rgb_marked after_number bind
+    unfolding parse_rgb rgb_rest rgb_marked
     percentages_give f tail =
         rw (at_byte 40 _ f)
         (then_gives (number_reads r x.value xo x.before (ends_percent _) (simp append_assoc at (from_spaced percentage x _ (at_step (40 ∷ []) _ f)))) _ (λ w o j g.
@@ -208,7 +206,7 @@ module _ (r : NumbersRead) where
     hsl_gives : At s i (40 ∷ (spaced number x ++ (44 ∷ (spaced percentage y ++ (44 ∷ (spaced percentage z ++ b))))))
         → ((j : ℕ) → At s j rest → Gives s (parse_alpha s j (hsl_color (double (exactly x.value)) (portion y.value) (portion z.value))) c all)
         → Gives s (parse_hsl s i) c all
-    unfolding parse_hsl hsl_rest bind
+    unfolding parse_hsl hsl_rest
     hsl_gives f tail =
         rw (at_byte 40 _ f)
         (then_gives (list_number_reads r x xo comma (at_step (40 ∷ []) _ f)) _ (λ w o j g.
@@ -275,13 +273,13 @@ module _ (r : NumbersRead) {s b rest all : List ℕ} (e : Stop b rest) (i : ℕ)
   hsl_all t ok f tail = hsl_gives r t.hue t.saturation t.lightness ok.0 ok.1.0 ok.1.1 e i c (simp append_assoc at f) tail
 
 -- what goes on with `rest` has ended where the text did
-ended : (text call rest : List ℕ) (c : Color) → text ++ rest ≡ call → Gives call (parse_color call 0) c rest → parse_color (text ++ rest) 0 ≡ C.Value c (place (length text))
+ended : (text call rest : List ℕ) (c : Color) → text ++ rest ≡ call → Gives call (parse_color call 0) c rest → parse_color (text ++ rest) 0 ≡ read_on c (place (length text))
 ended text call rest c q g =
     let n : g.next ≡ length text = omega (arith, g.from.here, ap length g.from.text, ap length q, length-append g.from.before rest, length-append text rest) in
     rw (q, ← n) g.is
 
 -- THEOREM. Every text of the four notations, its numbers in the domain, is read as its colour, and reading goes on right after its bracket, whatever follows.
-pub functional_read : NumbersRead → (t : Functional) → AllInDomain t → (rest : List ℕ) → parse_color (functional t ++ rest) 0 ≡ C.Value (colour t) (place (length (functional t)))
+pub functional_read : NumbersRead → (t : Functional) → AllInDomain t → (rest : List ℕ) → parse_color (functional t ++ rest) 0 ≡ read_on (colour t) (place (length (functional t)))
 unfolding functional within same
 functional_read r (K.rgb w t) ok rest =
     let more = rgb_values t ++ (41 ∷ rest) in

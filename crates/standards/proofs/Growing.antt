@@ -138,7 +138,7 @@ channel_top (inf false) = omega arith
 channel_top (fin true m e) = omega arith
 channel_top (fin false m e) = omega arith
 
--- the part a / c of the whole as document 01 scales it: as a number, and as 100 a / c percent
+-- the part a / c of the whole as the readers scale it: as a number, and as 100 a / c percent
 abbrev pub fade_at : ℕ → ℕ → ℕ
 fade_at a c = scaled_channel (round binary64 false a c)
 

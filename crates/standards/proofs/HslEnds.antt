@@ -6,7 +6,7 @@ use native.Mathlib.Omega.{arith}
 use lib.Dec.{T}
 use lib.Ieee.{Float, nan, inf, fin, binary64, is_nan}
 use Rattle.text_bytes.proofs.Ranges.{either}
-use Rattle.color.specs.Color.{rgba}
+use Rattle.color.specs.Hex.{rgba}
 use Rattle.color.specs.Hsl.{hsl_color}
 use Rattle.standards.specs.Ieee754.{Fraction, Parameters, RoundsTo, parameters, quotient, exact, double, gain}
 use Rattle.standards.specs.Svg2.{ratio}

@@ -11,7 +11,6 @@ use Rattle.text_bytes.specs.Bytes.{within, is_lower, is_ascii_ident}
 use Rattle.text_bytes.specs.Moves.{place}
 use Rattle.stream.specs.Faults.{invalid_value}
 use Rattle.stream.specs.Refusals.{empty_refusal, admit_text}
-use Rattle.stream.specs.declared.Admission.TheVariants.{Admitted}
 use Rattle.text_bytes.specs.Words.{ascii, same, lower_of, lowered}
 use Rattle.text_bytes.proofs.Ranges.{and_first, and_second, all_from, across}
 use Rattle.text_bytes.proofs.Wording.{same_eq}
@@ -20,17 +19,20 @@ use Rattle.names.specs.Search.{nth}
 use Rattle.names.proofs.Naming.{named_keyword, named_unknown, named_transparent}
 use Rattle.names.proofs.Tables.{holds_true}
 use Rattle.names.specs.Look.{named_of}
-use Rattle.names.specs.declared.Named.TheVariants as N
 use Rattle.color.specs.Answer.{from_str}
-use Rattle.color.specs.Color.{rgba, is_rgb, is_hsl, named_color, parse_color}
-use Rattle.color.specs.Moves.{move_color_read}
-use Rattle.color.specs.declared.ColorRead.TheVariants as C
-use Rattle.color.specs.declared.ColorAnswer.TheVariants as A
+use Rattle.color.specs.Color.{is_rgb, is_hsl, named_color, parse_color}
+use Rattle.color.specs.Hex.{rgba}
+use Rattle.stream.specs.declared.Trouble.TheVariants as T
+use Rattle.stream.specs.declared.Reason.TheVariants as R
+use Rattle.standards.specs.Answers.{read_on}
+use Rattle.std.specs.Prelude.{Err, Ok, None}
+use Rattle.stream.specs.Moves.{move_read, moved, stays}
 use Rattle.standards.specs.CssValues3.{Blank, blanks}
 use Rattle.standards.specs.CssColor3Names.{Keyword, is, keywords}
 use Rattle.standards.proofs.Runs.{every, blanks_end}
 use Rattle.standards.proofs.Cursors.{differs}
 use Rattle.standards.proofs.Colours.{after_blanks, letters, word_ascii, word_first, color_text, refused_text}
+use Rattle.standards.specs.Notations.{Other}
 
 -- the standard's keyword k
 abbrev pub keyword : ℕ → Keyword
@@ -89,7 +91,7 @@ module _ (w rest : List ℕ) (f : is_ascii_ident (get_or rest 0 0) ≡ false) wh
 
 -- THEOREM. Each keyword, in letters of either case, is read with its channels, and reading goes on after it
 pub names_read : (k : ℕ) → k < length keywords → (w rest : List ℕ) → lowered w ≡ ascii (keyword k).name → is_ascii_ident (get_or rest 0 0) ≡ false
-    → parse_color (w ++ rest) 0 ≡ C.Value (rgba (keyword k).red (keyword k).green (keyword k).blue 255) (place (length w))
+    → parse_color (w ++ rest) 0 ≡ read_on (rgba (keyword k).red (keyword k).green (keyword k).blue 255) (place (length w))
 unfolding named_color
 names_read k l w rest e f =
     let q : ours k ≡ theirs k = same_line k l in
@@ -101,12 +103,12 @@ names_read k l w rest e f =
 
 -- and so after white space
 pub names_spaced : (l : List Blank) (k : ℕ) → k < length keywords → (w rest : List ℕ) → lowered w ≡ ascii (keyword k).name → is_ascii_ident (get_or rest 0 0) ≡ false
-    → parse_color (blanks l ++ (w ++ rest)) 0 ≡ C.Value (rgba (keyword k).red (keyword k).green (keyword k).blue 255) (place (length l + length w))
-names_spaced l k h w rest e f = after_blanks l (w ++ rest) ∙ ap (move_color_read (length l)) (names_read k h w rest e f)
+    → parse_color (blanks l ++ (w ++ rest)) 0 ≡ read_on (rgba (keyword k).red (keyword k).green (keyword k).blue 255) (place (length l + length w))
+names_spaced l k h w rest e f = after_blanks l (w ++ rest) ∙ ap (moved (move_read stays) (length l)) (names_read k h w rest e f)
 
 -- and as a whole text with white space about it
 pub names_text : (l m : List Blank) (k : ℕ) → k < length keywords → (w : List ℕ) → lowered w ≡ ascii (keyword k).name → length l + (length w + length m) ≤ 4096
-    → from_str (blanks l ++ (w ++ blanks m)) ≡ A.Value (rgba (keyword k).red (keyword k).green (keyword k).blue 255)
+    → from_str (blanks l ++ (w ++ blanks m)) ≡ Ok (rgba (keyword k).red (keyword k).green (keyword k).blue 255)
 unfolding within
 names_text l m k h w e n =
     color_text l m w (rgba (keyword k).red (keyword k).green (keyword k).blue 255) n (word_ascii w (letters w (rw e (and_first _ _ (keyword_is_name k h)))))
@@ -114,18 +116,9 @@ names_text l m k h w e n =
 
 -- `transparent`, which is in no table of keywords, has alpha 0
 pub names_transparent : (w rest : List ℕ) → lowered w ≡ ascii "transparent" → is_ascii_ident (get_or rest 0 0) ≡ false
-    → parse_color (w ++ rest) 0 ≡ C.Value (rgba 0 0 0 0) (place (length w))
+    → parse_color (w ++ rest) 0 ≡ read_on (rgba 0 0 0 0) (place (length w))
 unfolding named_color same within
 names_transparent w rest e f = name_up w rest f (rw e refl) ∙ simp (named_transparent w e)
-
--- a word in lower case that is no keyword of the standard, not `transparent`, and no function's
-pub record Other (n : List ℕ) : Type 0 where
-  pub no_keyword : (k : ℕ) → k < length keywords → n ≡ ascii (keyword k).name → ⊥
-  pub no_transparent : n ≡ ascii "transparent" → ⊥
-  pub no_rgb : n ≡ ascii "rgb" → ⊥
-  pub no_rgba : n ≡ ascii "rgba" → ⊥
-  pub no_hsl : n ≡ ascii "hsl" → ⊥
-  pub no_hsla : n ≡ ascii "hsla" → ⊥
 
 no_function : (n : List ℕ) → Other n → not (is_function n) ≡ true
 no_function n o =
@@ -133,10 +126,10 @@ no_function n o =
 
 -- THEOREM. No other word is a colour: it is refused by 5 at its end
 pub names_other : (w rest : List ℕ) → every is_ascii_ident w ≡ true → 0 < length w → is_ascii_ident (get_or rest 0 0) ≡ false → Other (lowered w)
-    → parse_color (w ++ rest) 0 ≡ C.Refused (invalid_value (length w))
+    → parse_color (w ++ rest) 0 ≡ Err (invalid_value (length w))
 unfolding named_color
 names_other w rest e h f o =
-    let u : named_of w ≡ N.Unknown = named_unknown w unlisted (λ q. o.no_transparent (sym q)) in
+    let u : named_of w ≡ None = named_unknown w unlisted (λ q. o.no_transparent (sym q)) in
     looked_up w rest f e h (no_function (lowered w) o) ∙ simp u
   where
     unlisted : (k : ℕ) → k < 147 → (nth k).name ≡ lowered w → ⊥
@@ -147,5 +140,5 @@ names_other w rest e h f o =
 
 -- and so as a whole text that may be read
 pub names_other_text : (w rest : List ℕ) → every is_ascii_ident w ≡ true → 0 < length w → is_ascii_ident (get_or rest 0 0) ≡ false → Other (lowered w)
-    → admit_text (w ++ rest) ≡ Admitted → from_str (w ++ rest) ≡ A.Refused (empty_refusal 5 (length w))
+    → admit_text (w ++ rest) ≡ Ok tt → from_str (w ++ rest) ≡ Err (empty_refusal (R.Unread T.InvalidValue) (length w))
 names_other_text w rest e h f o t = refused_text (w ++ rest) (length w) t (names_other w rest e h f o)

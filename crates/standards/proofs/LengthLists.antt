@@ -9,22 +9,21 @@ use borrow.Author.Tests.{le-leb, lt-leb}
 use lib.ListN.{length, get_or, length-append, length-map}
 use Rattle.text_bytes.specs.Bytes.{is_space, within}
 use Rattle.text_bytes.specs.Moves.{place}
-use Rattle.text_bytes.specs.Flow.{bind}
-use Rattle.text_bytes.specs.Scan.{scan}
 use Rattle.stream.specs.Faults.{parse_list_separator}
 use Rattle.stream.specs.Refusals.{admit_place}
-use Rattle.length.specs.Lengths.{parse_length, parse_list_length, next_length}
-use Rattle.length.specs.Moves.{move_length_read}
-use Rattle.length.specs.declared.LengthRead.TheVariants as L
-use Rattle.length.specs.declared.LengthStep.TheVariants as S
+use Rattle.length.specs.Lengths.{parse_length, parse_list_length, parse_step, next_length}
+use Rattle.numbers.specs.Number.{after_item}
+use Rattle.length.specs.Lengths.{value_step, end_step}
 use Rattle.length.proofs.Shifts.{length_shift}
+use Rattle.numbers.specs.Moves.{move_written}
+use Rattle.stream.specs.Moves.{move_read, moved}
 use Rattle.standards.specs.CssValues3.{Blank, blank, blanks, number}
 use Rattle.standards.specs.Domain.{InDomain, PartedInDomain, LengthsInDomain}
 use Rattle.standards.specs.Svg2.{Length, unitless, length_text}
 use Rattle.standards.specs.LengthSteps.{follow, from, answers, passed, handed_lengths}
 use Rattle.standards.specs.Svg2Lists as G
 use Rattle.standards.specs.Svg2Lists.{Separator, separator, Parted, parted_text, LengthList, lengths_text}
-use Rattle.standards.specs.Answers.{Stops, number_of, length_of}
+use Rattle.standards.specs.Answers.{Stops, length_written, read_on}
 use Rattle.standards.proofs.Reading.{NumbersRead, ends_comma}
 use Rattle.standards.proofs.Cursors.{At, at_start, at_step, at_blanks, at_read, at_spaces, at_inside, at_curr, at_other}
 use Rattle.standards.proofs.Runs.{Ascii, ascii_append, ascii_admitted, on_ascii, blanks_ascii, number_first, number_some}
@@ -80,17 +79,17 @@ begins_end = record { unspaced = refl; no_comma = λ e. omega arith }
 
 module _ (r : NumbersRead) {s : List ℕ} {i : ℕ} where
   length_at : (l : List Blank) (t : Length) (rest : List ℕ) → InDomain t.number_part → (t.unit_part ≡ unitless → Stops rest) → At s i (blanks l ++ (length_text t ++ rest))
-      → parse_length s i ≡ L.Value (length_of t) (number_of t.number_part (i + (length l + length (number t.number_part)))) (place (i + (length l + length (length_text t))))
-  length_at l t rest d e h = at_read parse_length move_length_read (λ a b j. length_shift a b j) h ∙ ap (move_length_read i) (length_read r l t rest d e)
+      → parse_length s i ≡ read_on (length_written t (i + (length l + length (number t.number_part)))) (place (i + (length l + length (length_text t))))
+  length_at l t rest d e h = at_read parse_length (moved (move_read move_written)) (λ a b j. length_shift a b j) h ∙ ap (moved (move_read move_written) i) (length_read r l t rest d e)
 
 module _ {s : List ℕ} {i : ℕ} where
   -- what the reader passes after a length
-  spaces_passed : (l : List Blank) (x : List ℕ) → Begins x → At s i (blanks l ++ x) → bind (scan is_space s i) (parse_list_separator s) ≡ i + length l
-  unfolding parse_list_separator bind
+  spaces_passed : (l : List Blank) (x : List ℕ) → Begins x → At s i (blanks l ++ x) → after_item s i ≡ i + length l
+  unfolding parse_list_separator
   spaces_passed l x b h = simp (at_spaces l x b.unspaced h, at_other 44 b.no_comma (at_blanks l x h))
 
-  separator_passed : (p : Separator) (x : List ℕ) → Begins x → At s i (separator p ++ x) → bind (scan is_space s i) (parse_list_separator s) ≡ i + length (passed p)
-  unfolding separator parse_list_separator bind
+  separator_passed : (p : Separator) (x : List ℕ) → Begins x → At s i (separator p ++ x) → after_item s i ≡ i + length (passed p)
+  unfolding separator parse_list_separator
   separator_passed (G.space c l) x b h = rw length-map (spaces_passed (c ∷ l) x b h)
   separator_passed (G.comma l m) x b h =
       let y : List ℕ = 44 ∷ (blanks m ++ x) in
@@ -101,9 +100,9 @@ module _ {s : List ℕ} {i : ℕ} where
 module _ (r : NumbersRead) (s : List ℕ) (small : length s ≤ 4096) (plain : Ascii s) where
   -- a step, given what is read after the length, up to place e
   next_is : (i e : ℕ) (l : List Blank) (t : Length) (rest : List ℕ) → InDomain t.number_part → (t.unit_part ≡ unitless → Stops rest) → At s i (blanks l ++ (length_text t ++ rest))
-      → (let j = i + (length l + length (length_text t)) in bind (scan is_space s j) (parse_list_separator s) ≡ e)
-      → next_length s i ≡ S.Value (length_of t) (number_of t.number_part (i + (length l + length (number t.number_part)))) (place e)
-  unfolding next_length admit_place parse_list_length bind
+      → (let j = i + (length l + length (length_text t)) in after_item s j ≡ e)
+      → next_length s i ≡ value_step (length_written t (i + (length l + length (number t.number_part)))) (place e)
+  unfolding next_length parse_step admit_place parse_list_length
   next_is i e l t rest d u h q =
       let n : i < length s = omega (arith, at_inside h, length-append (blanks l) (length_text t ++ rest), length-append (length_text t) rest, length_some t) in
       simp (ascii_admitted s plain small, on_ascii s i plain (omega arith), lt-leb (length s) i n, length_at r l t rest d u h, q)
@@ -127,7 +126,7 @@ module _ (r : NumbersRead) (last : Length) (after : List Blank) (d : InDomain la
   parted_at : (i : ℕ) (l : List Blank) (p : Parted) (ps : List Parted) → InDomain p.length_part.number_part → At s i (blanks l ++ spelt last after (p ∷ ps))
       → (let t = p.length_part in
       next_length s i
-      ≡ S.Value (length_of t) (number_of t.number_part (i + (length l + length (number t.number_part))))
+      ≡ value_step (length_written t (i + (length l + length (number t.number_part))))
       (place (i + (length l + length (length_text t)) + length (passed p.parting))))
   parted_at i l p ps c h =
       let t = p.length_part in
@@ -140,7 +139,7 @@ module _ (r : NumbersRead) (last : Length) (after : List Blank) (d : InDomain la
 
   last_at : (i : ℕ) (l : List Blank) → At s i (blanks l ++ spelt last after [])
       → next_length s i
-      ≡ S.Value (length_of last) (number_of last.number_part (i + (length l + length (number last.number_part)))) (place (i + (length l + length (length_text last)) + length after))
+      ≡ value_step (length_written last (i + (length l + length (number last.number_part)))) (place (i + (length l + length (length_text last)) + length after))
   unfolding parted_text
   last_at i l h =
       let t = last in
@@ -148,18 +147,18 @@ module _ (r : NumbersRead) (last : Length) (after : List Blank) (d : InDomain la
       let k : At s (i + (length l + length (length_text t))) (blanks after) = rw z at (at_step (length_text t) (blanks after) (at_blanks l (length_text t ++ blanks after) h)) in
       next_is r s small plain i _ l t (blanks after) d (λ e. stops_blanks after) h (spaces_passed after [] begins_end (rw append-nil k))
 
-  end_at : next_length s (length s) ≡ S.End (place (length s))
-  unfolding next_length admit_place
+  end_at : next_length s (length s) ≡ end_step (place (length s))
+  unfolding next_length parse_step admit_place
   end_at = simp (ascii_admitted s plain small, on_ascii s (length s) plain (omega arith), le-leb (length s) (length s) (omega arith))
 
-  ended : (k : ℕ) → from k s (length s) ≡ S.End (place (length s)) ∷ []
+  ended : (k : ℕ) → from k s (length s) ≡ end_step (place (length s)) ∷ []
   unfolding from follow
   ended zero = rw end_at
   ended (suc k) = rw end_at
 
   -- the answers from place i on, where l of the white space is left
   list_from : (k i : ℕ) (l : List Blank) (ps : List Parted) → PartedInDomain ps → suc (length ps) ≤ k → At s i (blanks l ++ spelt last after ps)
-      → from k s i ≡ handed_lengths last after (i + length l) ps ++ (S.End (place (length s)) ∷ [])
+      → from k s i ≡ handed_lengths last after (i + length l) ps ++ (end_step (place (length s)) ∷ [])
   unfolding from follow handed_lengths parted_text
   list_from zero i l ps w n h = absurd (omega arith)
   list_from (suc k) i l [] w n h =
@@ -224,7 +223,7 @@ list_at t ps qs e =
 
 module _ (r : NumbersRead) (t : LengthList) (d : LengthsInDomain t) (small : length (lengths_text t) ≤ 4096) where
   -- THEOREM: a list of the grammar hands out its lengths, in order, and then ends
-  pub lengths_read : answers (lengths_text t) 0 ≡ handed_lengths t.last t.after (length t.before) t.firsts ++ (S.End (place (length (lengths_text t))) ∷ [])
+  pub lengths_read : answers (lengths_text t) 0 ≡ handed_lengths t.last t.after (length t.before) t.firsts ++ (end_step (place (length (lengths_text t))) ∷ [])
   unfolding answers lengths_text
   lengths_read =
       let ps = t.firsts in
@@ -238,14 +237,14 @@ module _ (r : NumbersRead) (t : LengthList) (d : LengthsInDomain t) (small : len
       → (let n = length t.before + length (parted_text ps) in
       let l = p.length_part in
       next_length (lengths_text t) n
-      ≡ S.Value (length_of l) (number_of l.number_part (n + length (number l.number_part))) (place (n + length (length_text l) + length (passed p.parting))))
+      ≡ value_step (length_written l (n + length (number l.number_part))) (place (n + length (length_text l) + length (passed p.parting))))
   length_step ps p qs e =
       rw (zero-add, zero-add) at (parted_at r t.last t.after d.1 (lengths_text t) small (list_ascii t) (length t.before + length (parted_text ps)) [] p qs (parted_in ps p qs (rw e at d.0)) (list_at t ps (p ∷ qs) e))
 
   pub last_step : (let n = length t.before + length (parted_text t.firsts) in
       let l = t.last in
       next_length (lengths_text t) n
-      ≡ S.Value (length_of l) (number_of l.number_part (n + length (number l.number_part))) (place (n + length (length_text l) + length t.after)))
+      ≡ value_step (length_written l (n + length (number l.number_part))) (place (n + length (length_text l) + length t.after)))
   last_step =
       rw (zero-add, zero-add) at (last_at r t.last t.after d.1 (lengths_text t) small (list_ascii t) (length t.before + length (parted_text t.firsts)) []
       (list_at t t.firsts [] (sym (append-nil t.firsts))))

@@ -48,3 +48,4 @@ pub mod Palette
 pub mod Meanings
 pub mod Whole
 pub mod Readers
+pub mod Proved

@@ -17,7 +17,7 @@ use Rattle.text_bytes.proofs.Ranges.{either}
 use Rattle.floats.specs.Floats.{narrowed, channel_of, clamped, sign_of}
 use Rattle.floats.proofs.Bounds.{Within, is_finite, wider, neg_within, round_within, add_within, rem_within}
 use Rattle.numbers.specs.Powers.{hundred}
-use Rattle.color.specs.Color.{rgba}
+use Rattle.color.specs.Hex.{rgba}
 use Rattle.color.specs.Hsl.{s0, s05, s1, s2, s3, s4, s6, s60, s255, d360, turned, raised, lessened, sector, hue_to_rgb, upper, under, lit, hsl_to_rgb, hsl_color}
 use Rattle.standards.specs.Ieee754.{Fraction, parameters, Delivered, RoundsTo, exact, double, gain}
 use Rattle.standards.specs.CssValues3.{Number, exactly}

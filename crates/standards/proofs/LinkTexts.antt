@@ -11,21 +11,21 @@ use lib.ListN.{length, length-append, length-map}
 use lib.Seq.{take_at}
 use Rattle.text_bytes.specs.Bytes.{is_space, is_link_byte}
 use Rattle.text_bytes.specs.Moves.{place, move_part}
-use Rattle.text_bytes.specs.Flow.{bind}
 use Rattle.text_bytes.specs.Scan.{scan, run}
 use Rattle.text_bytes.proofs.Ahead.{scan_again}
 use Rattle.text_bytes.proofs.Ranges.{and_first, and_second}
 use Rattle.funciri.specs.Link.{link_at, link_bytes, parse_iri, parse_func_iri}
-use Rattle.funciri.specs.Moves.{move_link_read}
 use Rattle.funciri.specs.Answers.{whole_link, iri_from_str, func_iri_from_str}
 use Rattle.text_bytes.specs.declared.Part.{Part}
 use Rattle.text_bytes.specs.declared.Place.{Place}
 use Rattle.stream.specs.Faults.{unexpected_data}
-use Rattle.stream.specs.Refusals.{refusal_of}
-use Rattle.funciri.specs.declared.LinkRead.{LinkRead}
-use Rattle.funciri.specs.declared.LinkRead.TheVariants as L
-use Rattle.funciri.specs.declared.LinkAnswer.TheVariants as A
+use Rattle.stream.specs.Refusals.{at_edge}
 use Rattle.funciri.proofs.Shifts.{func_iri_shift}
+use Rattle.standards.specs.Answers.{read_on}
+use Rattle.std.specs.Prelude.{Err, Ok, Result}
+use Rattle.stream.specs.Moves.{move_read, moved}
+use Rattle.stream.specs.declared.Fault.{Fault}
+use Rattle.stream.specs.declared.Read.{Read}
 use Rattle.standards.specs.Rfc3629.{octets, text}
 use Rattle.standards.specs.Rfc3987.{is_ucschar, is_fragment, Piece, plain, pct_encoded, piece, fragment, Reference, target, reference_text}
 use Rattle.standards.specs.CssValues3.{Blank, space, tab, line_feed, return, blank, blanks}
@@ -33,9 +33,9 @@ use Rattle.standards.specs.CssColor4.{Digit, numeral, small, capital, character}
 use Rattle.standards.specs.Svg2.{Url, name, opening, closing, url_text}
 use Rattle.standards.specs.Domain.{ends_link, Closes}
 use Rattle.standards.proofs.Characters.{octets_every}
-use Rattle.standards.proofs.Cursors.{At, at_start, at_step, at_blanks, at_read, at_spaces, at_scan, at_byte, at_drop, at_inside}
+use Rattle.standards.proofs.Cursors.{one_value, At, at_start, at_step, at_blanks, at_read, at_spaces, at_scan, at_byte, at_drop, at_inside}
 use Rattle.standards.proofs.Links.{apart, link_read, url_clean}
-use Rattle.standards.proofs.LinksOnly.{same_link, run_more, link_only}
+use Rattle.standards.proofs.LinksOnly.{run_more, link_only}
 use Rattle.standards.proofs.Runs.{every, every_append, run_every, is_ascii}
 use Rattle.standards.proofs.Tight.{ascii_written, blanks_written, written_append, clean_written, written_admitted}
 use Rattle.standards.proofs.Utf8.{Written, octets_some}
@@ -48,8 +48,8 @@ link_there {s} {n} x b h =
     simp (g, at_drop h) (take_at x b (length x) refl)
 
 -- a link, and white space to the end
-whole_is : {s : List ℕ} {n : ℕ} (m : List Blank) {i k : ℕ} → At s n (blanks m) → whole_link s (L.Link (link_at (place i) k) (place n)) ≡ A.Link (link_at (place i) k)
-unfolding whole_link bind
+whole_is : {s : List ℕ} {n : ℕ} (m : List Blank) {i k : ℕ} → At s n (blanks m) → at_edge s (whole_link s (read_on (link_at (place i) k) (place n))) ≡ Ok (link_at (place i) k)
+unfolding whole_link
 whole_is {s} {n} m h =
     let e : scan is_space s n ≡ n + length m = at_spaces m [] refl (rw append-nil h) in
     let f : ltb (n + length m) (length s) ≡ false = le-ltb (n + length m) (length s) (omega (arith, at_inside h, length-map m blank)) in
@@ -119,8 +119,8 @@ module _ (t : Reference) where
       (written_append (ascii_written (35 ∷ []) refl) (written_append (fragment_written (t.first ∷ t.others)) (blanks_written t.after)))
 
   -- THEOREM: a reference is answered as the place and the length of its name
-  pub reference_read : ends_link t.after ≡ true → length (reference_text t) ≤ 4096 → iri_from_str (reference_text t) ≡ A.Link (link_at (place (length t.before + 1)) (length (target t)))
-  unfolding iri_from_str parse_iri bind
+  pub reference_read : ends_link t.after ≡ true → length (reference_text t) ≤ 4096 → iri_from_str (reference_text t) ≡ Ok (link_at (place (length t.before + 1)) (length (target t)))
+  unfolding iri_from_str parse_iri
   reference_read w fits =
       let x = target t in
       let n = length t.before in
@@ -151,17 +151,17 @@ module _ (before : List Blank) (u : Url) (after : List Blank) where
   url_whole_written = written_append (blanks_written before) (written_append (clean_written (url_clean u)) (blanks_written after))
 
   -- the white space before it is passed
-  url_moved : parse_func_iri url_whole 0 ≡ move_link_read (length before) (parse_func_iri (url_text u ++ blanks after) 0)
+  url_moved : parse_func_iri url_whole 0 ≡ moved (move_read move_part) (length before) (parse_func_iri (url_text u ++ blanks after) 0)
   unfolding parse_func_iri url_text opening
   url_moved =
       let y = url_text u ++ blanks after in
       let sp : scan is_space url_whole 0 ≡ length before = rw zero-add at (at_spaces before y refl (at_start url_whole)) in
       let p : parse_func_iri url_whole (length before) ≡ parse_func_iri url_whole 0 = rw (← sp) (rw (scan_again is_space url_whole 0)) in
-      sym p ∙ at_read parse_func_iri move_link_read (λ a b i. func_iri_shift a b i) url_whole_at
+      sym p ∙ at_read parse_func_iri (moved (move_read move_part)) (λ a b i. func_iri_shift a b i) url_whole_at
 
   -- THEOREM: it is answered as the place and the length of its name
-  pub url_read : Closes u → length url_whole ≤ 4096 → func_iri_from_str url_whole ≡ A.Link (link_at (place (length before + length (opening u))) (length (name u)))
-  unfolding func_iri_from_str bind
+  pub url_read : Closes u → length url_whole ≤ 4096 → func_iri_from_str url_whole ≡ Ok (link_at (place (length before + length (opening u))) (length (name u)))
+  unfolding func_iri_from_str
   url_read c fits =
       simp (written_admitted url_whole url_whole_written fits, url_moved, link_read u c (blanks after))
       (whole_is after (at_step (url_text u) (blanks after) url_whole_at))
@@ -176,14 +176,14 @@ module _ (before : List Blank) (u : Url) (after : List Blank) where
       link_there (name u) rest (at_step (opening u) (name u ++ rest) h)
 
 -- and nothing else is answered so: a whole text's link was read,
-whole_only : (s : List ℕ) (r : LinkRead) {k : Part} → whole_link s r ≡ A.Link k → (p : Place) × (r ≡ L.Link k p)
-unfolding whole_link bind
-whole_only s (L.Refused f) e = let z : ◌≡◌ {A = ℕ} 0 1 = cc in absurd (omega arith)
-whole_only s (L.Link l p) {k} e = go (ltb (scan is_space s p.0) (length s)) e
+whole_only : (s : List ℕ) (r : Result (Read Part) Fault) {k : Part} → at_edge s (whole_link s r) ≡ Ok k → (p : Place) × (r ≡ read_on k p)
+unfolding whole_link
+whole_only s (Err f) e = let z : ◌≡◌ {A = ℕ} 0 1 = cc in absurd (omega arith)
+whole_only s (Ok l) {k} e = go (ltb (scan is_space s l.next.0) (length s)) e
   where
-    go : (t : Bool) → cond t (A.Refused (refusal_of s (unexpected_data s (scan is_space s p.0)))) (A.Link l) ≡ A.Link k → (q : Place) × (L.Link l p ≡ L.Link k q)
+    go : (t : Bool) → at_edge s (cond t (Err (unexpected_data s (scan is_space s l.next.0))) (Ok l.value)) ≡ Ok k → (q : Place) × (Ok l ≡ read_on k q)
     go true e = let z : ◌≡◌ {A = ℕ} 0 1 = cc in absurd (omega arith)
-    go false e = let z : l ≡ k = cc in (p, ap (λ (x : Part). L.Link x p) z)
+    go false e = let z : l.value ≡ k = cc in (l.next, ap (λ (x : Part). read_on x l.next) z)
 
 -- and before it was moved it was a link, too
 pub part_back : (n : ℕ) (x : Part) {i k : ℕ} → move_part n x ≡ link_at (place (n + i)) k → x ≡ link_at (place i) k
@@ -193,15 +193,14 @@ part_back n x {i} {k} z =
     let c : x.start.0 ≡ i = omega arith in
     rw (← c, ← b) refl
 
-moved_back : (n : ℕ) (r : LinkRead) {i k : ℕ} {p : Place} → move_link_read n r ≡ L.Link (link_at (place (n + i)) k) p → (q : Place) × (r ≡ L.Link (link_at (place i) k) q)
-moved_back n (L.Refused f) e = let z : ◌≡◌ {A = ℕ} 0 1 = cc in absurd (omega arith)
-moved_back n (L.Link x q) e =
-    (q, ap (λ (y : Part). L.Link y q) (part_back n x (same_link e)))
+moved_back : (n : ℕ) (r : Result (Read Part) Fault) {i k : ℕ} {p : Place} → moved (move_read move_part) n r ≡ read_on (link_at (place (n + i)) k) p → (q : Place) × (r ≡ read_on (link_at (place i) k) q)
+moved_back n (Err f) e = let z : ◌≡◌ {A = ℕ} 0 1 = cc in absurd (omega arith)
+moved_back n (Ok x) e = (x.next, ap (λ (y : Part). read_on y x.next) (part_back n x.value (one_value e)))
 
--- THEOREM: a <url> whose name is answered is closed as document 01 wants it
+-- THEOREM: a <url> whose name is answered is closed as specs/Domain has it
 pub url_only : (before : List Blank) (u : Url) (after : List Blank) → length (url_whole before u after) ≤ 4096
-    → func_iri_from_str (url_whole before u after) ≡ A.Link (link_at (place (length before + length (opening u))) (length (name u))) → Closes u
-unfolding func_iri_from_str bind
+    → func_iri_from_str (url_whole before u after) ≡ Ok (link_at (place (length before + length (opening u))) (length (name u))) → Closes u
+unfolding func_iri_from_str
 url_only before u after fits e =
     let s = url_whole before u after in
     let r = whole_only s (parse_func_iri s 0) (rw (written_admitted s (url_whole_written before u after) fits) at e) in
@@ -209,8 +208,8 @@ url_only before u after fits e =
 
 -- and a reference is
 reference_more : (l : List Blank) (x : List ℕ) (c : Blank) (m : List Blank) → every is_link_byte x ≡ true → is_link_byte (blank c) ≡ true → {p : Place}
-    → parse_iri (blanks l ++ (35 ∷ (x ++ blanks (c ∷ m)))) 0 ≡ L.Link (link_at (place (length l + 1)) (length x)) p → ⊥
-unfolding parse_iri bind
+    → parse_iri (blanks l ++ (35 ∷ (x ++ blanks (c ∷ m)))) 0 ≡ read_on (link_at (place (length l + 1)) (length x)) p → ⊥
+unfolding parse_iri
 reference_more l x c m all h {p} r =
     let n = length l in
     let y = x ++ blanks (c ∷ m) in
@@ -222,12 +221,12 @@ reference_more l x c m all h {p} r =
     let g : length x < k = run_more is_link_byte x (blank c) (blanks m) all h in
     let f : leb (n + 1 + k) (n + 1) ≡ false = lt-leb (n + 1 + k) (n + 1) (omega arith) in
     let d : n + 1 + k - (n + 1) ≡ k = omega arith in
-    let z = same_link (simp (a, at_byte 35 y b, e, f, d) at r) in
+    let z = one_value (simp (a, at_byte 35 y b, e, f, d) at r) in
     let w : k ≡ length x = ap (λ (q : Part). q.len) z in
     omega arith
 
 after_only : (l : List Blank) (x : List ℕ) (m : List Blank) → every is_link_byte x ≡ true → {p : Place}
-    → parse_iri (blanks l ++ (35 ∷ (x ++ blanks m))) 0 ≡ L.Link (link_at (place (length l + 1)) (length x)) p → ends_link m ≡ true
+    → parse_iri (blanks l ++ (35 ∷ (x ++ blanks m))) 0 ≡ read_on (link_at (place (length l + 1)) (length x)) p → ends_link m ≡ true
 unfolding ends_link blank
 after_only l x [] all r = refl
 after_only l x (space ∷ m) all r = refl
@@ -235,9 +234,9 @@ after_only l x (tab ∷ m) all r = absurd (reference_more l x tab m all refl r)
 after_only l x (line_feed ∷ m) all r = absurd (reference_more l x line_feed m all refl r)
 after_only l x (return ∷ m) all r = absurd (reference_more l x return m all refl r)
 
-pub reference_only : (t : Reference) → length (reference_text t) ≤ 4096 → iri_from_str (reference_text t) ≡ A.Link (link_at (place (length t.before + 1)) (length (target t)))
+pub reference_only : (t : Reference) → length (reference_text t) ≤ 4096 → iri_from_str (reference_text t) ≡ Ok (link_at (place (length t.before + 1)) (length (target t)))
     → ends_link t.after ≡ true
-unfolding iri_from_str reference_text bind
+unfolding iri_from_str reference_text
 reference_only t fits e =
     let s = reference_text t in
     let r = whole_only s (parse_iri s 0) (rw (written_admitted s (reference_written t) fits) at e) in

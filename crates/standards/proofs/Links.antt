@@ -13,14 +13,13 @@ use Rattle.utf8.specs.Blanks.{blank1, blank2, blank3, blank_end, blank_before, b
 use Rattle.text_bytes.specs.Bytes.{is_space, is_url_byte, is_other}
 use Rattle.text_bytes.specs.Moves.{place}
 use Rattle.stream.specs.Faults.{invalid_value, consume_byte, consume_string}
-use Rattle.text_bytes.specs.Flow.{bind}
 use Rattle.text_bytes.specs.Scan.{scan, run}
 use Rattle.text_bytes.specs.Words.{ascii, starts_with, part}
-use Rattle.stream.specs.declared.Consumed.TheVariants as C
 use Rattle.text_bytes.specs.declared.Part.{Part}
 use Rattle.text_bytes.proofs.Ranges.{and_first, and_second}
 use Rattle.funciri.specs.Link.{is_quote, has_quote, is_link, link_at, close_link, close_quote, quoted_link, plain_link, parse_func_iri}
-use Rattle.funciri.specs.declared.LinkRead.TheVariants as L
+use Rattle.standards.specs.Answers.{read_on}
+use Rattle.std.specs.Prelude.{Err, Ok}
 use Rattle.standards.specs.Rfc3629.{Char, octets, text, scalar}
 use Rattle.standards.specs.Unicode.{ends_white}
 use Rattle.standards.specs.CssValues3.{Blank, space, tab, line_feed, return, blank, blanks}
@@ -84,16 +83,16 @@ name_link c cs h = go (octets c ++ text cs) (simp length-append (omega (arith, o
     go [] s h = absurd (omega arith)
     go (b ∷ bs) s h = rw h
 
-close_read : (s : List ℕ) (i : ℕ) (l : Part) (m : List Blank) (rest : List ℕ) → drop i s ≡ blanks m ++ (41 ∷ rest) → close_link s i l ≡ L.Link l (place (i + length m + 1))
-unfolding close_link bind
+close_read : (s : List ℕ) (i : ℕ) (l : Part) (m : List Blank) (rest : List ℕ) → drop i s ≡ blanks m ++ (41 ∷ rest) → close_link s i l ≡ read_on l (place (i + length m + 1))
+unfolding close_link
 close_read s i l m rest e =
     let f : drop (i + length m) s ≡ 41 ∷ rest = blanks_past s i m (41 ∷ rest) e in
     simp (blanks_scan s i m (41 ∷ rest) e refl, consumed s (i + length m) 41 rest f)
 
 module _ (x : List ℕ) (s : List ℕ) (i : ℕ) (m : List Blank) (rest : List ℕ) where
   plain_read : is_link x ≡ true → every is_url_byte x ≡ true → is_url_byte (get_or (blanks m ++ (41 ∷ rest)) 0 0) ≡ false → drop i s ≡ 35 ∷ (x ++ (blanks m ++ (41 ∷ rest)))
-      → plain_link s i ≡ L.Link (link_at (place (i + 1)) (length x)) (place (i + 1 + length x + length m + 1))
-  unfolding plain_link bind
+      → plain_link s i ≡ read_on (link_at (place (i + 1)) (length x)) (place (i + 1 + length x + length m + 1))
+  unfolding plain_link
   plain_read link all stop e =
       let n = length x in
       let y = blanks m ++ (41 ∷ rest) in
@@ -106,8 +105,8 @@ module _ (x : List ℕ) (s : List ℕ) (i : ℕ) (m : List Blank) (rest : List �
 
   pub quoted_is : (q : ℕ) → is_space q ≡ false → is_other q q ≡ false → every (is_other q) x ≡ true → drop i s ≡ 35 ∷ (x ++ (q ∷ (blanks m ++ (41 ∷ rest))))
       → quoted_link s i q
-      ≡ cond (is_link (take (trim_end x) x)) (close_quote s (i + 1 + length x) q (link_at (place (i + 1)) (trim_end x))) (L.Refused (invalid_value (i + 1 + length x)))
-  unfolding quoted_link bind
+      ≡ cond (is_link (take (trim_end x) x)) (close_quote s (i + 1 + length x) q (link_at (place (i + 1)) (trim_end x))) (Err (invalid_value (i + 1 + length x)))
+  unfolding quoted_link
   quoted_is q sp other all e =
       let n = length x in
       let y = q ∷ (blanks m ++ (41 ∷ rest)) in
@@ -118,8 +117,8 @@ module _ (x : List ℕ) (s : List ℕ) (i : ℕ) (m : List Blank) (rest : List �
 
   quoted_read : (q : ℕ) → is_space q ≡ false → is_other q q ≡ false → every (is_other q) x ≡ true → is_link x ≡ true → trim_end x ≡ length x
       → drop i s ≡ 35 ∷ (x ++ (q ∷ (blanks m ++ (41 ∷ rest))))
-      → quoted_link s i q ≡ L.Link (link_at (place (i + 1)) (length x)) (place (i + 1 + length x + 1 + length m + 1))
-  unfolding close_quote bind
+      → quoted_link s i q ≡ read_on (link_at (place (i + 1)) (length x)) (place (i + 1 + length x + 1 + length m + 1))
+  unfolding close_quote
   quoted_read q sp other all link t e =
       let n = length x in
       let z = blanks m ++ (41 ∷ rest) in
@@ -156,15 +155,15 @@ module _ (l : List Blank) (x : List ℕ) (m : List Blank) (rest : List ℕ) wher
   inner q = blanks_past (spelt_out q) 4 l (begun q) refl
 
   pub opened : (q : Quotes) → is_space (get_or (begun q) 0 0) ≡ false → parse_func_iri (spelt_out q) 0
-      ≡ bind (get_or (begun q) 0 0) (λ c. cond (is_quote c) (quoted_link (spelt_out q) (4 + length l + 1) c) (plain_link (spelt_out q) (4 + length l)))
-  unfolding parse_func_iri bind spelt_out
+      ≡ (let c = get_or (begun q) 0 0 in cond (is_quote c) (quoted_link (spelt_out q) (4 + length l + 1) c) (plain_link (spelt_out q) (4 + length l)))
+  unfolding parse_func_iri spelt_out
   opened q e =
       let s = spelt_out q in
       let a : scan is_space s 0 ≡ 0 = scanned_none s 0 117 (drop 1 s) refl is_space refl in
       let d : scan is_space s 4 ≡ 4 + length l = blanks_scan s 4 l (begun q) refl e in
       let f : drop (4 + length l) s ≡ begun q = inner q in
       let g : get_or s (4 + length l) 0 ≡ get_or (begun q) 0 0 = byte_here s (4 + length l) (begun q) f in
-      let h : consume_string s 0 (ascii "url(") ≡ C.Next (place 4) = consumed_word s 0 117 (114 ∷ 108 ∷ 40 ∷ []) (blanks l ++ begun q) refl in
+      let h : consume_string s 0 (ascii "url(") ≡ Ok (place 4) = consumed_word s 0 117 (114 ∷ 108 ∷ 40 ∷ []) (blanks l ++ begun q) refl in
       simp (a, h, d, g)
 
   -- with a quote k
@@ -177,7 +176,6 @@ module _ (l : List Blank) (x : List ℕ) (m : List Blank) (rest : List ℕ) wher
     after_quote = past (spelt_out q) (4 + length l) (k ∷ []) (35 ∷ (x ++ (k ∷ (blanks m ++ (41 ∷ rest))))) (inner q ∙ begun_is)
 
     pub quote_opened : is_quote k ≡ true → is_space k ≡ false → parse_func_iri (spelt_out q) 0 ≡ quoted_link (spelt_out q) (4 + length l + 1) k
-    unfolding bind
     quote_opened t sp = opened q (rw begun_is sp) ∙ simp (begun_is, t)
 
   -- the name's place, and the place after the closing bracket
@@ -190,8 +188,8 @@ module _ (l : List Blank) (x : List ℕ) (m : List Blank) (rest : List ℕ) wher
 -- a link with no quotes
 bare_read : (l : List Blank) (b : UrlCharacter) (bs : List UrlCharacter) (m : List Blank) (rest : List ℕ) → ends_link m ≡ true
     → (let x = written (b ∷ bs) in
-    parse_func_iri (spelt_out l x m rest bare) 0 ≡ L.Link (link_at (place (name_start l x m rest bare)) (length x)) (place (link_end l x m rest bare)))
-unfolding quote begun name_start link_end bind characters
+    parse_func_iri (spelt_out l x m rest bare) 0 ≡ read_on (link_at (place (name_start l x m rest bare)) (length x)) (place (link_end l x m rest bare)))
+unfolding quote begun name_start link_end characters
 bare_read l b bs m rest h =
     let x = written (b ∷ bs) in
     let k : is_link x ≡ true = name_link b.is (characters bs) (url_unquoted (b ∷ bs)) in
@@ -201,7 +199,7 @@ bare_read l b bs m rest h =
 module _ (l : List Blank) (c : Char) (cs : List Char) (m : List Blank) (rest : List ℕ) (h : (unquoted (c ∷ cs) && not (ends_white (c ∷ cs))) ≡ true) where
   in_quotes : (q : Quotes) (k : ℕ) → quote q ≡ k ∷ [] → is_quote k ≡ true → is_space k ≡ false → is_other k k ≡ false → every (is_other k) (text (c ∷ cs)) ≡ true
       → parse_func_iri (spelt_out l (text (c ∷ cs)) m rest q) 0
-      ≡ L.Link (link_at (place (name_start l (text (c ∷ cs)) m rest q)) (length (text (c ∷ cs)))) (place (link_end l (text (c ∷ cs)) m rest q))
+      ≡ read_on (link_at (place (name_start l (text (c ∷ cs)) m rest q)) (length (text (c ∷ cs)))) (place (link_end l (text (c ∷ cs)) m rest q))
   unfolding name_start link_end
   in_quotes q k w iq sp other all =
       let x = text (c ∷ cs) in
@@ -218,7 +216,7 @@ module _ (l : List Blank) (c : Char) (cs : List Char) (m : List Blank) (rest : L
 
 named_read_is : (q : Quotes) (l : List Blank) (b : Of (between q)) (bs : List (Of (between q))) (m : List Blank) (rest : List ℕ) → closed q (characters (b ∷ bs)) m ≡ true
     → (let x = written (b ∷ bs) in
-    parse_func_iri (spelt_out l x m rest q) 0 ≡ L.Link (link_at (place (name_start l x m rest q)) (length x)) (place (link_end l x m rest q)))
+    parse_func_iri (spelt_out l x m rest q) 0 ≡ read_on (link_at (place (name_start l x m rest q)) (length x)) (place (link_end l x m rest q)))
 unfolding between closed characters
 named_read_is bare l b bs m rest h = bare_read l b bs m rest h
 named_read_is single l b bs m rest h = in_quotes l b.is (characters bs) m rest h single 39 (unfold quote in refl) refl refl refl (names_string 39 (omega arith) (b ∷ bs))
@@ -226,7 +224,7 @@ named_read_is twofold l b bs m rest h = in_quotes l b.is (characters bs) m rest 
 
 -- a link: the name's place and length, and the place after the closing bracket
 pub link_read : (u : Url) → Closes u → (rest : List ℕ)
-    → parse_func_iri (url_text u ++ rest) 0 ≡ L.Link (link_at (place (length (opening u))) (length (name u))) (place (length (url_text u)))
+    → parse_func_iri (url_text u ++ rest) 0 ≡ read_on (link_at (place (length (opening u))) (length (name u))) (place (length (url_text u)))
 unfolding url_text opening closing spelt_out begun name_start link_end
 link_read u c rest =
     let l = u.before in
@@ -239,21 +237,21 @@ link_read u c rest =
     rw (e, f, g) (named_read_is q l u.first u.others m rest c)
 
 -- The smallest links that are none of these: a tab before the bracket, the other quote, and a space before the quote
-pub tab_kept : parse_func_iri (ascii "url(#a" ++ (9 ∷ 41 ∷ [])) 0 ≡ L.Link (link_at (place 5) 2) (place 8)
-unfolding parse_func_iri plain_link close_link is_link has_quote consume_byte consume_string starts_with scan run part bind
+pub tab_kept : parse_func_iri (ascii "url(#a" ++ (9 ∷ 41 ∷ [])) 0 ≡ read_on (link_at (place 5) 2) (place 8)
+unfolding parse_func_iri plain_link close_link is_link has_quote consume_byte consume_string starts_with scan run part
 tab_kept = refl
 
-pub quote_refused : parse_func_iri (ascii "url(\"#'\")") 0 ≡ L.Refused (invalid_value 7)
-unfolding parse_func_iri quoted_link close_link close_quote is_link has_quote consume_byte consume_string starts_with scan run part bind trim_end back blank_before blank_end byte_before blank1 blank2 blank3
+pub quote_refused : parse_func_iri (ascii "url(\"#'\")") 0 ≡ Err (invalid_value 7)
+unfolding parse_func_iri quoted_link close_link close_quote is_link has_quote consume_byte consume_string starts_with scan run part trim_end back blank_before blank_end byte_before blank1 blank2 blank3
 quote_refused = refl
 
-pub space_trimmed : parse_func_iri (ascii "url('#a ')") 0 ≡ L.Link (link_at (place 6) 1) (place 10)
-unfolding parse_func_iri quoted_link close_link close_quote is_link has_quote consume_byte consume_string starts_with scan run part bind trim_end back blank_before blank_end byte_before blank1 blank2 blank3
+pub space_trimmed : parse_func_iri (ascii "url('#a ')") 0 ≡ read_on (link_at (place 6) 1) (place 10)
+unfolding parse_func_iri quoted_link close_link close_quote is_link has_quote consume_byte consume_string starts_with scan run part trim_end back blank_before blank_end byte_before blank1 blank2 blank3
 space_trimmed = refl
 
 -- and beyond ASCII, U+00A0 there
-pub no_break_trimmed : parse_func_iri (ascii "url('#a" ++ (0xc2 ∷ 0xa0 ∷ ascii "')")) 0 ≡ L.Link (link_at (place 6) 1) (place 11)
-unfolding parse_func_iri quoted_link close_link close_quote is_link has_quote consume_byte consume_string starts_with scan run part bind trim_end back blank_before blank_end byte_before blank1 blank2 blank3
+pub no_break_trimmed : parse_func_iri (ascii "url('#a" ++ (0xc2 ∷ 0xa0 ∷ ascii "')")) 0 ≡ read_on (link_at (place 6) 1) (place 11)
+unfolding parse_func_iri quoted_link close_link close_quote is_link has_quote consume_byte consume_string starts_with scan run part trim_end back blank_before blank_end byte_before blank1 blank2 blank3
 no_break_trimmed = refl
 
 quote_ascii : (q : Quotes) → Ascii (quote q)

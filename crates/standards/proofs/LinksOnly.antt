@@ -11,54 +11,41 @@ use lib.Seq.{take_all}
 use Rattle.utf8.specs.Blanks.{blank_before, back, trim_end}
 use Rattle.text_bytes.specs.Bytes.{is_space, is_url_byte, is_other}
 use Rattle.text_bytes.specs.Moves.{place}
-use Rattle.text_bytes.specs.Flow.{bind}
 use Rattle.text_bytes.specs.Scan.{scan, run}
 use Rattle.text_bytes.specs.Words.{part}
 use Rattle.text_bytes.specs.declared.Part.{Part}
 use Rattle.text_bytes.specs.declared.Place.{Place}
 use Rattle.text_bytes.proofs.Ranges.{either, and_first, and_second}
 use Rattle.stream.specs.Faults.{invalid_value, consume_byte}
-use Rattle.stream.specs.Moves.{then_consumed}
 use Rattle.stream.specs.declared.Fault.{Fault}
-use Rattle.stream.specs.declared.Consumed.{Consumed}
-use Rattle.stream.specs.declared.Consumed.TheVariants as C
 use Rattle.funciri.specs.Link.{is_quote, has_quote, is_link, link_at, close_link, close_quote, plain_link, parse_func_iri}
-use Rattle.funciri.specs.declared.LinkRead.{LinkRead}
-use Rattle.funciri.specs.declared.LinkRead.TheVariants as L
+use Rattle.stream.proofs.Binds.{bind_ok}
+use Rattle.standards.specs.Answers.{read_on}
+use Rattle.std.specs.Prelude.{Err, Result}
+use Rattle.stream.specs.declared.Read.{Read}
 use Rattle.standards.specs.Rfc3629.{Char, utf8_1, utf8_2, utf8_3_e0, utf8_3_e1, utf8_3_ed, utf8_3_ee, utf8_4_f0, utf8_4_f1, utf8_4_f4, octets, text, two, three, four, scalar}
-use Rattle.standards.specs.Unicode.{white, ends_white}
+use Rattle.standards.specs.Unicode.{white, ends_white, all_white}
 use Rattle.standards.specs.CssValues3.{Blank, space, tab, line_feed, return, blank, blanks}
 use Rattle.standards.specs.CssSyntax3.{Of, characters, written, UrlCharacter}
 use Rattle.standards.specs.Svg2.{Quotes, bare, single, twofold, quote, between, Url, name, opening, closing, url_text}
 use Rattle.standards.specs.Domain.{ends_link, unquoted, closed, Closes}
-use Rattle.standards.proofs.Cursors.{past, consumed, scan_on}
+use Rattle.standards.proofs.Cursors.{one_value, past, consumed, scan_on}
 use Rattle.standards.proofs.Links.{no_quote, names_url, names_string, quoted_is, begun, spelt_out, inner, opened, name_start, after_quote, quote_opened}
 use Rattle.standards.proofs.Runs.{every}
-use Rattle.standards.proofs.Trim.{all_white, text_append, ended}
+use Rattle.standards.proofs.Trim.{text_append, ended}
 use Rattle.standards.proofs.Utf8.{octets_some}
 
 -- what closes a link leaves it as it is
-pub same_link : {l k : Part} {p q : Place} → L.Link l p ≡ L.Link k q → l ≡ k
-same_link e = cc
+close_keeps : (s : List ℕ) (i : ℕ) {l k : Part} {q : Place} → close_link s i l ≡ read_on k q → l ≡ k
+unfolding close_link
+close_keeps s i e = one_value (bind_ok (consume_byte s (scan is_space s i) 41) _ e).1.1
 
-consumed_link : (x : Consumed) {l k : Part} {q : Place} → then_consumed L.Refused x (λ p. L.Link l p) ≡ L.Link k q → l ≡ k
-consumed_link (C.Next p) e = same_link e
-consumed_link (C.Refused f) e = let z : ◌≡◌ {A = ℕ} 0 1 = cc in absurd (omega arith)
-
-close_keeps : (s : List ℕ) (i : ℕ) {l k : Part} {q : Place} → close_link s i l ≡ L.Link k q → l ≡ k
-unfolding close_link bind
-close_keeps s i e = consumed_link (consume_byte s (scan is_space s i) 41) e
-
-quote_keeps : (s : List ℕ) (i c : ℕ) {l k : Part} {q : Place} → close_quote s i c l ≡ L.Link k q → l ≡ k
-unfolding close_quote bind
-quote_keeps s i c {l} {k} {q} e = go (consume_byte s (scan is_space s i) c) e
-  where
-    go : (x : Consumed) → then_consumed L.Refused x (λ p. close_link s p.0 l) ≡ L.Link k q → l ≡ k
-    go (C.Next p) e = close_keeps s p.0 e
-    go (C.Refused f) e = let z : ◌≡◌ {A = ℕ} 0 1 = cc in absurd (omega arith)
+quote_keeps : (s : List ℕ) (i c : ℕ) {l k : Part} {q : Place} → close_quote s i c l ≡ read_on k q → l ≡ k
+unfolding close_quote
+quote_keeps s i c e = let v = bind_ok (consume_byte s (scan is_space s i) c) _ e in close_keeps s v.0.0 v.1.1
 
 -- a link that is judged by a test, and closed, was not refused
-judged : (t : Bool) (x : LinkRead) (f : Fault) {k : Part} {q : Place} → cond t x (L.Refused f) ≡ L.Link k q → (t ≡ true) × (x ≡ L.Link k q)
+judged : (t : Bool) (x : Result (Read Part) Fault) (f : Fault) {k : Part} {q : Place} → cond t x (Err f) ≡ read_on k q → (t ≡ true) × (x ≡ read_on k q)
 judged true x f e = (refl, e)
 judged false x f e = let z : ◌≡◌ {A = ℕ} 0 1 = cc in absurd (omega arith)
 
@@ -69,8 +56,8 @@ run_more p [] b z e h = simp h (omega arith)
 run_more p (y ∷ ys) b z e h = simp (and_first (p y) (every p ys) e) (omega (arith, run_more p ys b z (and_second (p y) (every p ys) e) h))
 
 plain_more : (x : List ℕ) (s : List ℕ) (i b : ℕ) (z : List ℕ) → every is_url_byte x ≡ true → is_url_byte b ≡ true → drop i s ≡ 35 ∷ (x ++ (b ∷ z))
-    → {q : Place} → plain_link s i ≡ L.Link (link_at (place (i + 1)) (length x)) q → ⊥
-unfolding plain_link bind
+    → {q : Place} → plain_link s i ≡ read_on (link_at (place (i + 1)) (length x)) q → ⊥
+unfolding plain_link
 plain_more x s i b z all h e {q} r =
     let y = x ++ (b ∷ z) in
     let n = run is_url_byte y in
@@ -159,7 +146,7 @@ is_link_of (b ∷ bs) e = go (has_quote (b ∷ bs)) e
 -- a link in quotes
 module _ (l : List Blank) (c : Char) (cs : List Char) (m : List Blank) (rest : List ℕ) where
   quotes_only : (q : Quotes) (k : ℕ) → quote q ≡ k ∷ [] → is_quote k ≡ true → is_space k ≡ false → is_other k k ≡ false → every (is_other k) (text (c ∷ cs)) ≡ true
-      → {i : ℕ} {p : Place} → parse_func_iri (spelt_out l (text (c ∷ cs)) m rest q) 0 ≡ L.Link (link_at (place i) (length (text (c ∷ cs)))) p
+      → {i : ℕ} {p : Place} → parse_func_iri (spelt_out l (text (c ∷ cs)) m rest q) 0 ≡ read_on (link_at (place i) (length (text (c ∷ cs)))) p
       → (unquoted (c ∷ cs) && not (ends_white (c ∷ cs))) ≡ true
   quotes_only q k w iq sp other all {i} {p} r =
       let x = text (c ∷ cs) in
@@ -175,18 +162,18 @@ module _ (l : List Blank) (c : Char) (cs : List Char) (m : List Blank) (rest : L
 
 -- one with none
 passes : (l : List Blank) (b : UrlCharacter) (bs : List UrlCharacter) (c : Blank) (m : List Blank) (rest : List ℕ) → is_url_byte (blank c) ≡ true → {p : Place}
-    → (let x = written (b ∷ bs) in parse_func_iri (spelt_out l x (c ∷ m) rest bare) 0 ≡ L.Link (link_at (place (name_start l x (c ∷ m) rest bare)) (length x)) p) → ⊥
-unfolding begun quote name_start bind
+    → (let x = written (b ∷ bs) in parse_func_iri (spelt_out l x (c ∷ m) rest bare) 0 ≡ read_on (link_at (place (name_start l x (c ∷ m) rest bare)) (length x)) p) → ⊥
+unfolding begun quote name_start
 passes l b bs c m rest h {p} r =
     let x = written (b ∷ bs) in
     let i = 4 + length l in
     let s = spelt_out l x (c ∷ m) rest bare in
     let z : i + 0 + 1 ≡ i + 1 = omega arith in
-    let e : plain_link s i ≡ L.Link (link_at (place (i + 1)) (length x)) p = rw z at (sym (opened l x (c ∷ m) rest bare refl) ∙ r) in
+    let e : plain_link s i ≡ read_on (link_at (place (i + 1)) (length x)) p = rw z at (sym (opened l x (c ∷ m) rest bare refl) ∙ r) in
     plain_more x s i (blank c) (blanks m ++ (41 ∷ rest)) (names_url (b ∷ bs)) h (inner l x (c ∷ m) rest bare) e
 
 bare_only : (l : List Blank) (b : UrlCharacter) (bs : List UrlCharacter) (m : List Blank) (rest : List ℕ) {p : Place}
-    → (let x = written (b ∷ bs) in parse_func_iri (spelt_out l x m rest bare) 0 ≡ L.Link (link_at (place (name_start l x m rest bare)) (length x)) p) → ends_link m ≡ true
+    → (let x = written (b ∷ bs) in parse_func_iri (spelt_out l x m rest bare) 0 ≡ read_on (link_at (place (name_start l x m rest bare)) (length x)) p) → ends_link m ≡ true
 unfolding ends_link blank
 bare_only l b bs [] rest r = refl
 bare_only l b bs (space ∷ m) rest r = refl
@@ -195,14 +182,14 @@ bare_only l b bs (line_feed ∷ m) rest r = absurd (passes l b bs line_feed m re
 bare_only l b bs (return ∷ m) rest r = absurd (passes l b bs return m rest refl r)
 
 named_only : (q : Quotes) (l : List Blank) (b : Of (between q)) (bs : List (Of (between q))) (m : List Blank) (rest : List ℕ) {p : Place}
-    → (let x = written (b ∷ bs) in parse_func_iri (spelt_out l x m rest q) 0 ≡ L.Link (link_at (place (name_start l x m rest q)) (length x)) p) → closed q (characters (b ∷ bs)) m ≡ true
+    → (let x = written (b ∷ bs) in parse_func_iri (spelt_out l x m rest q) 0 ≡ read_on (link_at (place (name_start l x m rest q)) (length x)) p) → closed q (characters (b ∷ bs)) m ≡ true
 unfolding between closed characters
 named_only bare l b bs m rest r = bare_only l b bs m rest r
 named_only single l b bs m rest r = quotes_only l b.is (characters bs) m rest single 39 (unfold quote in refl) refl refl refl (names_string 39 (omega arith) (b ∷ bs)) r
 named_only twofold l b bs m rest r = quotes_only l b.is (characters bs) m rest twofold 34 (unfold quote in refl) refl refl refl (names_string 34 (omega arith) (b ∷ bs)) r
 
--- THEOREM: a link whose name is answered is closed as document 01 wants it
-pub link_only : (u : Url) (rest : List ℕ) {p : Place} → parse_func_iri (url_text u ++ rest) 0 ≡ L.Link (link_at (place (length (opening u))) (length (name u))) p → Closes u
+-- THEOREM: a link whose name is answered is closed as specs/Domain has it
+pub link_only : (u : Url) (rest : List ℕ) {p : Place} → parse_func_iri (url_text u ++ rest) 0 ≡ read_on (link_at (place (length (opening u))) (length (name u))) p → Closes u
 unfolding url_text opening closing spelt_out begun name_start
 link_only u rest {p} r =
     let l = u.before in

@@ -11,22 +11,21 @@ use lib.Ieee.Scale.{round_same}
 use lib.ListN.{length, get_or, length-append}
 use Rattle.text_bytes.specs.Bytes.{within, is_space, is_ascii_ident}
 use Rattle.text_bytes.specs.Moves.{place}
-use Rattle.text_bytes.specs.Flow.{bind}
 use Rattle.floats.specs.Floats.{d0, sign_of}
 use Rattle.numbers.specs.Number.{parse_number, parse_number_or_percent}
+use Rattle.numbers.specs.Moves as N
 use Rattle.numbers.specs.Powers.{hundred}
-use Rattle.numbers.specs.declared.NumberRead.{NumberRead}
-use Rattle.numbers.specs.declared.NumberRead.TheVariants as N
 use Rattle.length.specs.Lengths.{unit_at, unit_width, parse_length}
-use Rattle.length.specs.declared.LengthRead.TheVariants as L
-use Rattle.angle.specs.declared.AngleRead.TheVariants as R
 use Rattle.filter_functions.specs.Values.{is_percent, parse_filter_angle}
+use Rattle.std.specs.Prelude.{Result}
+use Rattle.stream.specs.declared.Fault.{Fault}
+use Rattle.stream.specs.declared.Read.{Read}
 use Rattle.standards.specs.Ieee754.{double}
 use Rattle.standards.specs.CssValues3.{Blank, blank, blanks, space, tab, line_feed, return, is_minus, joined, Number, number, exactly, is_integer, angle_unit}
 use Rattle.standards.specs.Domain.{InDomain, amount_number, angle_number}
 use Rattle.standards.specs.FilterEffects1 as E
 use Rattle.standards.specs.FilterEffects1.{LengthMark, unmarked, marked, length_mark, CssLength, css_length, measure}
-use Rattle.standards.specs.Answers.{Ends, Stops, number_of, angle_named, unit_marked, measure_of, turn_of}
+use Rattle.standards.specs.Answers.{Ends, Stops, number_of, angle_named, unit_marked, measure_of, turn_of, read_on}
 use Rattle.standards.proofs.Doubles.{under_pos}
 use Rattle.standards.proofs.Signs.{double_sign, hundredth_sign}
 use Rattle.standards.proofs.Reading.{ends_bracket, ends_blank, NumbersRead, number_there, percent_there}
@@ -101,8 +100,8 @@ unfolding length_mark unit_marked
 mark_at {s} {i} unmarked {b} c h = no_unit s i b (closes_stops c) (at_drop h)
 mark_at {s} {i} (marked u) {b} c h = unit_there s i u b (at_drop h)
 
-abbrev number_read : Number → ℕ → NumberRead
-number_read t n = N.Value (number_of t n) (place n)
+abbrev number_read : Number → ℕ → Result (Read N.Number) Fault
+number_read t n = read_on (number_of t n) (place n)
 
 module _ (r : NumbersRead) {s : List ℕ} {i : ℕ} where
   pub number_at : (t : Number) {b : List ℕ} → InDomain t → Ends b → At s i (number t ++ b) → parse_number s i ≡ number_read t (i + length (number t))
@@ -113,8 +112,8 @@ module _ (r : NumbersRead) {s : List ℕ} {i : ℕ} where
   -- a length, and what follows closes it
   pub length_at : (l : CssLength) {b : List ℕ} → InDomain l.size → Closes b → At s i (css_length l ++ b)
       → parse_length s i
-      ≡ L.Value (measure_of (measure l)) (record { value = (measure l).size; whole = is_integer l.size; end = place (i + length (number l.size)) }) (place (i + length (css_length l)))
-  unfolding parse_length css_length measure bind
+      ≡ read_on (record { value = measure_of (measure l); whole = is_integer l.size; end = place (i + length (number l.size)) }) (place (i + length (css_length l)))
+  unfolding parse_length css_length measure
   length_at l {b} d c h =
       let n = number l.size in
       let u = length_mark l.mark in
@@ -133,7 +132,7 @@ share_sign (E.percentage n) = rw hundred_is (hundredth_sign (double (exactly n.o
 module _ (r : NumbersRead) {s : List ℕ} {i : ℕ} where
   pub amount_at : (a : E.Amount) {b : List ℕ} → InDomain (amount_number a) → Closes b → At s i (E.amount a ++ b)
       → parse_number_or_percent s i
-      ≡ N.Value (record { value = E.share a; whole = is_integer (amount_number a); end = place (i + length (number (amount_number a))) }) (place (i + length (E.amount a)))
+      ≡ read_on (record { value = E.share a; whole = is_integer (amount_number a); end = place (i + length (number (amount_number a))) }) (place (i + length (E.amount a)))
   unfolding E.amount E.share amount_number parse_number_or_percent
   amount_at (E.plain n) {b} d c h =
       simp (number_at r n.of d (closes_stops c).ends h, curr_not s (i + length (number n.of)) b (at_drop (at_step (number n.of) b h)) 37 (closes_stops c).mark)
@@ -147,9 +146,8 @@ module _ (r : NumbersRead) {s : List ℕ} {i : ℕ} where
 module _ (r : NumbersRead) {s : List ℕ} {i : ℕ} where
   pub angle_at : (a : E.CssAngle) {b : List ℕ} (k : ℕ) → InDomain (angle_number a) → Closes b → At s i (E.css_angle a ++ b)
       → parse_filter_angle s k i
-      ≡ R.Value (turn_of (E.turned a)) (record { value = (E.turned a).size; whole = is_integer (angle_number a); end = place (i + length (number (angle_number a))) })
-      (place (i + length (E.css_angle a)))
-  unfolding E.css_angle E.turned angle_number angle_named parse_filter_angle bind
+      ≡ read_on (turn_of (E.turned a)) (place (i + length (E.css_angle a)))
+  unfolding E.css_angle E.turned angle_number angle_named parse_filter_angle
   angle_at (E.angle n u) {b} k d c h =
       let t = number n in
       let m = angle_unit u in

@@ -10,28 +10,19 @@ use lib.Dec.{ltb}
 use lib.Ieee.{Float, binary64, round, of_bits}
 use lib.ListN.{length, drop, length-append, length-map}
 use Rattle.text_bytes.specs.Moves.{place}
-use Rattle.text_bytes.specs.Flow.{bind}
 use Rattle.text_bytes.specs.Words.{starts_with}
-use Rattle.text_bytes.specs.declared.Place.{Place}
 use Rattle.numbers.specs.Number.{parse_number}
-use Rattle.numbers.specs.declared.NumberRead.TheVariants as N
 use Rattle.length.specs.Lengths as LS
-use Rattle.length.specs.Lengths.{unit_at, unit_rest, unit_width, parse_length}
-use Rattle.length.specs.declared.LengthRead.TheVariants as L
-use Rattle.length.specs.declared.LengthAnswer.TheVariants as LA
+use Rattle.length.specs.Lengths.{unit_at, unit_width, parse_length}
 use Rattle.angle.specs.Angles as AS
-use Rattle.angle.specs.Angles.{parse_unit, parse_angle, to_degrees}
-use Rattle.angle.specs.Moves.{then_unit}
-use Rattle.angle.specs.declared.AngleUnit.{AngleUnit}
-use Rattle.angle.specs.declared.AngleUnit.TheVariants as W
-use Rattle.angle.specs.declared.AngleRead.TheVariants as R
-use Rattle.angle.specs.declared.AngleAnswer.TheVariants as Ra
+use Rattle.angle.specs.Angles.{parse_unit, or_degrees, parse_angle, to_degrees}
+use Rattle.std.specs.Prelude.{Ok}
 use Rattle.standards.specs.Ieee754.{double}
-use Rattle.standards.specs.CssValues3.{Blank, blanks, number, exactly, deg, grad, rad, turn}
+use Rattle.standards.specs.CssValues3.{Blank, blanks, number, deg, grad, rad, turn}
 use Rattle.standards.specs.Domain.{InDomain}
 use Rattle.standards.specs.Svg2 as S
 use Rattle.standards.specs.Svg2.{unitless, length_unit, length_text, unmarked, angle_unit, angle_text, in_degrees, ratio, radian_below, radian_above}
-use Rattle.standards.specs.Answers.{Ends, Stops, number_of, angle_named, unit_of, length_of, angle_unit_of, angle_of}
+use Rattle.standards.specs.Answers.{Ends, Stops, number_of, angle_named, unit_of, length_written, angle_unit_of, angle_written, read_on}
 use Rattle.standards.proofs.Reading.{ends_percent, NumbersRead}
 use Rattle.standards.proofs.Runs.{Ascii, ascii_append, ascii_admitted, blanks_ascii, number_ascii}
 use Rattle.standards.proofs.Cursors.{drop_past}
@@ -48,7 +39,7 @@ length_unit_ends (S.unit u) rest h = unit_ends u rest
 length_unit_ends S.percent rest h = ends_percent rest
 
 length_unit_read : (s : List ℕ) (i : ℕ) (u : S.LengthUnit) (rest : List ℕ) → (u ≡ unitless → Stops rest) → drop i s ≡ length_unit u ++ rest → unit_at s i ≡ unit_of u
-unfolding unit_at unit_rest unit_of length_unit starts_with
+unfolding unit_at unit_of length_unit starts_with
 length_unit_read s i S.unitless rest h e = no_unit s i rest (h refl) e
 length_unit_read s i (S.unit u) rest h e = unit_there s i u rest e
 length_unit_read s i S.percent rest h e = simp e
@@ -73,25 +64,25 @@ module _ (r : NumbersRead) (l : List Blank) where
   -- a length, after white space
   pub length_read : (t : S.Length) (rest : List ℕ) → InDomain t.number_part → (t.unit_part ≡ unitless → Stops rest)
       → parse_length (blanks l ++ (length_text t ++ rest)) 0
-      ≡ L.Value (length_of t) (number_of t.number_part (length l + length (number t.number_part))) (place (length l + length (length_text t)))
-  unfolding parse_length bind length_text
+      ≡ read_on (length_written t (length l + length (number t.number_part))) (place (length l + length (length_text t)))
+  unfolding parse_length length_text
   length_read t rest d h =
       let n = t.number_part in
       let u = t.unit_part in
       let i = length l + length (number n) in
       let s = blanks l ++ (number n ++ (length_unit u ++ rest)) in
-      let a : parse_number s 0 ≡ N.Value (number_of n i) (place i) = r.number_front l n (length_unit u ++ rest) d (length_unit_ends u rest h) in
+      let a : parse_number s 0 ≡ read_on (number_of n i) (place i) = r.number_front l n (length_unit u ++ rest) d (length_unit_ends u rest h) in
       let b : unit_at s i ≡ unit_of u = length_unit_read s i u rest h (drop_past l (number n) (length_unit u ++ rest)) in
       let e : i + length (length_unit u) ≡ length l + (length (number n) + length (length_unit u)) = omega arith in
       simp (append_assoc, a, b, width_is, length-append, e)
 
   -- and as a whole text
   pub length_whole : (t : S.Length) → InDomain t.number_part → length (blanks l ++ length_text t) ≤ 4096 → LS.from_str (blanks l ++ length_text t)
-      ≡ LA.Value (length_of t) (number_of t.number_part (length l + length (number t.number_part)))
+      ≡ Ok (length_written t (length l + length (number t.number_part)))
   unfolding LS.from_str LS.parse_whole
   length_whole t d h =
       let s = blanks l ++ length_text t in
-      let a : parse_length s 0 ≡ L.Value (length_of t) (number_of t.number_part (length l + length (number t.number_part))) (place (length l + length (length_text t)))
+      let a : parse_length s 0 ≡ read_on (length_written t (length l + length (number t.number_part))) (place (length l + length (length_text t)))
       = rw append-nil at (length_read t [] d (λ e. stops_end)) in
       let b : ltb (length l + length (length_text t)) (length s) ≡ false = at_end l (length_text t) in
       simp (ascii_admitted s (ascii_append (blanks l) (length_text t) (blanks_ascii l) (length_ascii t)) h, a, b)
@@ -101,12 +92,12 @@ unfolding angle_unit
 angle_unit_ends S.unmarked rest h = (h refl).ends
 angle_unit_ends (S.marked u) rest h = angle_ends u rest
 
--- going on with the unit that is read, or without one
-angle_unit_read : {B : Type 0} (s : List ℕ) (i : ℕ) (u : S.AngleUnit) (rest : List ℕ) → (u ≡ unmarked → Stops rest) → drop i s ≡ angle_unit u ++ rest
-    → (k : AngleUnit → Place → B) → then_unit (k W.Degrees (place i)) (parse_unit s i) k ≡ k (angle_unit_of u) (place (i + length (angle_unit u)))
+-- the unit that is read, or degrees
+angle_unit_read : (s : List ℕ) (i : ℕ) (u : S.AngleUnit) (rest : List ℕ) → (u ≡ unmarked → Stops rest) → drop i s ≡ angle_unit u ++ rest
+    → or_degrees (place i) (parse_unit s i) ≡ record { value = angle_unit_of u; next = place (i + length (angle_unit u)) }
 unfolding angle_unit_of angle_unit
-angle_unit_read s i S.unmarked rest h e k = simp (no_angle_unit s i rest (h refl) e, add-zero)
-angle_unit_read s i (S.marked u) rest h e k = simp (angle_there s i u rest e)
+angle_unit_read s i S.unmarked rest h e = simp (no_angle_unit s i rest (h refl) e, add-zero)
+angle_unit_read s i (S.marked u) rest h e = simp (angle_there s i u rest e)
 
 turned_ascii : (u : S.AngleUnit) → Ascii (angle_unit u)
 unfolding angle_unit
@@ -121,25 +112,25 @@ module _ (r : NumbersRead) (l : List Blank) where
   -- an angle, after white space
   pub angle_read : (t : S.Angle) (rest : List ℕ) → InDomain t.number_part → (t.unit_part ≡ unmarked → Stops rest)
       → parse_angle (blanks l ++ (angle_text t ++ rest)) 0
-      ≡ R.Value (angle_of t) (number_of t.number_part (length l + length (number t.number_part))) (place (length l + length (angle_text t)))
+      ≡ read_on (angle_written t (length l + length (number t.number_part))) (place (length l + length (angle_text t)))
   unfolding parse_angle angle_text
   angle_read t rest d h =
       let n = t.number_part in
       let u = t.unit_part in
       let i = length l + length (number n) in
       let s = blanks l ++ (number n ++ (angle_unit u ++ rest)) in
-      let a : parse_number s 0 ≡ N.Value (number_of n i) (place i) = r.number_front l n (angle_unit u ++ rest) d (angle_unit_ends u rest h) in
-      let b = angle_unit_read s i u rest h (drop_past l (number n) (angle_unit u ++ rest)) (λ v q. R.Value (record { number = double (exactly n); unit = v }) (number_of n i) q) in
+      let a : parse_number s 0 ≡ read_on (number_of n i) (place i) = r.number_front l n (angle_unit u ++ rest) d (angle_unit_ends u rest h) in
+      let b = angle_unit_read s i u rest h (drop_past l (number n) (angle_unit u ++ rest)) in
       let e : i + length (angle_unit u) ≡ length l + (length (number n) + length (angle_unit u)) = omega arith in
       simp (append_assoc, a, b, length-append, e)
 
   -- and as a whole text
   pub angle_whole : (t : S.Angle) → InDomain t.number_part → length (blanks l ++ angle_text t) ≤ 4096 → AS.from_str (blanks l ++ angle_text t)
-      ≡ Ra.Value (angle_of t) (number_of t.number_part (length l + length (number t.number_part)))
+      ≡ Ok (angle_written t (length l + length (number t.number_part)))
   unfolding AS.from_str AS.parse_whole
   angle_whole t d h =
       let s = blanks l ++ angle_text t in
-      let a : parse_angle s 0 ≡ R.Value (angle_of t) (number_of t.number_part (length l + length (number t.number_part))) (place (length l + length (angle_text t)))
+      let a : parse_angle s 0 ≡ read_on (angle_written t (length l + length (number t.number_part))) (place (length l + length (angle_text t)))
       = rw append-nil at (angle_read t [] d (λ e. stops_end)) in
       let b : ltb (length l + length (angle_text t)) (length s) ≡ false = at_end l (angle_text t) in
       simp (ascii_admitted s (ascii_append (blanks l) (angle_text t) (blanks_ascii l) (angle_ascii t)) h, a, b)

@@ -1,4 +1,4 @@
--- Every number of CSS Values 3 that keeps to document 01's domain, and with which what follows does not go on, is read as the double nearest to it, with its end.
+-- Every number of CSS Values 3 that keeps to the domain, and with which what follows does not go on, is read as the double nearest to it, with its end.
 use Prim.Native.Nat.{ℕ, suc, ◌+◌, ◌-◌, ◌*◌, ◌≤◌, ◌<◌}
 use mathlib.Core.Bool.{Bool, true, false, ◌||◌, ◌&&◌, not}
 use mathlib.Core.List.{List, [], ◌∷◌, ◌++◌, append_assoc}
@@ -10,19 +10,17 @@ use lib.Dec.{eqb, leb, lit≤}
 use lib.Ieee.{Float}
 use lib.ListN.{length, get_or, drop, length-append, length-map}
 use Rattle.text_bytes.specs.Bytes.{within, is_digit, is_sign, is_space}
-use Rattle.text_bytes.specs.Flow.{bind}
 use Rattle.text_bytes.specs.Moves.{place}
 use Rattle.text_bytes.specs.Scan.{scan}
 use Rattle.text_bytes.proofs.Ranges.{either, within_yes}
 use Rattle.numbers.specs.Decimal.{written, nearest}
 use Rattle.numbers.specs.Digits.{value, cap}
 use Rattle.numbers.specs.Number.{starts_number, after_sign, mantissa_dot, mantissa_at, exponent_from, exponent_at, scale_of, value_of, scaled, finished, number_from, parse_number, parse_number_or_percent}
-use Rattle.numbers.specs.declared.NumberRead.TheVariants as N
 use Rattle.numbers.proofs.Nearest.{number_nearest}
 use Rattle.standards.specs.Ieee754.{double}
 use Rattle.standards.specs.CssValues3.{Blank, blanks, Digit, numeral, numerals, spelt, Sign, unsigned, plus, minus, sign, is_minus, Digits, whole, dotted, digits, Exponent, absent, small, capital, exponent, Number, number, joined, fraction_digits, power, falls, exactly, is_whole, is_absent, is_integer}
 use Rattle.standards.specs.Domain.{Near, InDomain}
-use Rattle.standards.specs.Answers.{Apart, number_of, portion}
+use Rattle.standards.specs.Answers.{Apart, number_of, portion, read_on}
 use Rattle.standards.proofs.Reading.{ends_percent, ends_apart, NumbersRead}
 use Rattle.standards.proofs.Runs.{no_space, number_first, number_some}
 use Rattle.standards.proofs.Cursors.{byte_here, byte_on, drop_on, inside, curr_is, past, map_past, map_scan, blanks_past, blanks_scan, spaced_past}
@@ -267,8 +265,8 @@ module _ (s : List ℕ) (i : ℕ) (l : List Blank) (t : Number) (rest : List ℕ
   abbrev found : Float
   found = let sc = scale_of (falls t.exponent_part) (power t.exponent_part) (fraction_digits t.digits_of) in value_of (is_minus t.signed) (joined t.digits_of) sc.down sc.by
 
-  value_read : parse_number s i ≡ N.Value (record { value = found; whole = is_integer t; end = place end }) (place end)
-  unfolding parse_number bind number_from finished scaled
+  value_read : parse_number s i ≡ read_on (record { value = found; whole = is_integer t; end = place end }) (place end)
+  unfolding parse_number number_from finished scaled
   value_read =
       let sc = scale_of (falls t.exponent_part) (power t.exponent_part) (fraction_digits t.digits_of) in
       let some : start < length s = inside s start (number t ++ rest) at_start (omega (arith, length-append (number t) rest, number_some t)) in
@@ -286,10 +284,10 @@ module _ (s : List ℕ) (i : ℕ) (l : List Blank) (t : Number) (rest : List ℕ
 
   found_is : found ≡ double (exactly t)
   unfolding written nearest double exactly
-  found_is = number_nearest s i _ (place end) value_read ∙ simp (spaces_are, negative, sign_read, mantissa_read, exponent_read)
+  found_is = number_nearest s i _ value_read ∙ simp (spaces_are, negative, sign_read, mantissa_read, exponent_read)
 
   -- THEOREM. The double nearest to what is written, whether it is written as an integer, and its end
-  pub number_at : parse_number s i ≡ N.Value (number_of t end) (place end)
+  pub number_at : parse_number s i ≡ read_on (number_of t end) (place end)
   number_at = rw found_is at value_read
 
   -- where the reader's own steps end
@@ -299,7 +297,7 @@ module _ (s : List ℕ) (i : ℕ) (l : List Blank) (t : Number) (rest : List ℕ
 module _ (s : List ℕ) (i : ℕ) (l : List Blank) (t : Number) (rest : List ℕ) (dom : InDomain t) (h : drop i s ≡ blanks l ++ (number t ++ (37 ∷ rest))) where
   -- THEOREM. A percentage: that double, divided by 100 and rounded again
   pub percent_at : parse_number_or_percent s i
-      ≡ N.Value (record { value = portion t; whole = is_integer t; end = place (i + (length l + length (number t))) })
+      ≡ read_on (record { value = portion t; whole = is_integer t; end = place (i + (length l + length (number t))) })
       (place (i + (length l + length (number t)) + 1))
   unfolding parse_number_or_percent
   percent_at =

@@ -11,7 +11,6 @@ use lib.Seq.{drop_at, take_at}
 use Rattle.utf8.specs.Blanks.{blank1}
 use Rattle.text_bytes.specs.Bytes.{is_space, within}
 use Rattle.text_bytes.specs.Moves.{place}
-use Rattle.text_bytes.specs.Flow.{bind}
 use Rattle.text_bytes.specs.Scan.{scan, run}
 use Rattle.text_bytes.specs.Words.{ascii, starts_with, same, lower_of, part}
 use Rattle.text_bytes.specs.declared.Part.{Part}
@@ -20,21 +19,20 @@ use Rattle.names.specs.Keywords.{keywords}
 use Rattle.names.specs.Look.{look_up, named_of}
 use Rattle.color.specs.Color.{is_rgb, is_hsl, named_color, parse_word, parse_color, parse_color_text}
 use Rattle.color.specs.declared.Color.{Color}
-use Rattle.color.specs.declared.ColorRead.{ColorRead}
-use Rattle.color.specs.declared.ColorRead.TheVariants as C
 use Rattle.funciri.specs.Link.{link_at, link_bytes}
-use Rattle.paint.specs.Answers.{from_str}
+use Rattle.paint.specs.Answers.{parse_trimmed, from_str}
 use Rattle.paint.specs.Moves.{move_paint}
 use Rattle.paint.specs.Reading.{parse_fallback, parse_linked, parse_plain, parse_paint}
 use Rattle.paint.specs.declared.Paint.TheVariants as P
-use Rattle.paint.specs.declared.PaintAnswer.TheVariants as A
-use Rattle.paint.specs.declared.PaintFallback.TheVariants as F
-use Rattle.paint.specs.declared.PaintRead.TheVariants as R
+use Rattle.paint.specs.declared.PaintFallback.{PaintFallback}
+use Rattle.std.specs.Prelude.{Err, Ok, Result, Some, None}
+use Rattle.stream.specs.declared.Fault.{Fault}
+use Rattle.stream.specs.declared.Read.{Read}
 use Rattle.standards.specs.CssValues3.{Blank, blanks}
 use Rattle.standards.specs.Svg2 as S
 use Rattle.standards.specs.Svg2.{Url, name, opening, closing, url_text, fallback_text, paint_text}
 use Rattle.standards.specs.Domain.{Closes, PaintCloses}
-use Rattle.standards.specs.Answers.{fallback_of, paint_of}
+use Rattle.standards.specs.Answers.{fallback_of, paint_of, read_on}
 use Rattle.standards.proofs.Cursors.{differs, blanks_past, blanks_scan, drop_past}
 use Rattle.standards.proofs.Links.{link_read, url_clean}
 use Rattle.standards.proofs.Runs.{Ascii}
@@ -42,9 +40,9 @@ use Rattle.standards.proofs.Tight.{Tight, Clean, tight_clean, clean_around, clea
 use Rattle.standards.proofs.Utf8.{Written}
 use Rattle.text_bytes.proofs.Wording.{begins_with}
 
-is_refused : ColorRead → Bool
-is_refused (C.Value c p) = false
-is_refused (C.Refused e) = true
+is_refused : Result (Read Color) Fault → Bool
+is_refused (Ok r) = false
+is_refused (Err e) = true
 
 -- no colour is read where a word of SVG 2 stands, or a link
 record Apart : Type 0 where
@@ -56,7 +54,7 @@ record Apart : Type 0 where
   url : (rest : List ℕ) → is_refused (parse_color_text (ascii "url(" ++ rest)) ≡ true
 
 apart : Apart
-unfolding is_refused parse_color_text parse_color parse_word is_rgb is_hsl named_color named_of look_up keywords same lower_of part scan run bind within
+unfolding is_refused parse_color_text parse_color parse_word is_rgb is_hsl named_color named_of look_up keywords same lower_of part scan run within
 apart =
     record {
       none = refl;
@@ -69,7 +67,7 @@ apart =
 
 -- The colours that a paint may have: each is read as a whole text, is ASCII, and has no white space at its ends. That it is none of SVG 2's words follows
 pub record Coloured {Colour : Type 0} (colour : Colour → List ℕ) (channels : Colour → Color) : Type 0 where
-  pub read : (c : Colour) → parse_color_text (colour c) ≡ C.Value (channels c) (place (length (colour c)))
+  pub read : (c : Colour) → parse_color_text (colour c) ≡ read_on (channels c) (place (length (colour c)))
   pub tight : (c : Colour) → Tight (colour c)
 
 module _ {Colour : Type 0} {colour : Colour → List ℕ} {channels : Colour → Color} (k : Coloured colour channels) where
@@ -90,7 +88,7 @@ module _ {Colour : Type 0} {colour : Colour → List ℕ} {channels : Colour →
       (λ e. absurd (no_text c _ (apart.url (drop 4 (colour c))) (begins_with (ascii "url(") (colour c) e)))
       (λ e. e)
 
-  plain_read : (c : Colour) → parse_paint (colour c) ≡ R.Value (P.Color (channels c))
+  plain_read : (c : Colour) → parse_paint (colour c) ≡ Ok (P.Color (channels c))
   unfolding parse_paint parse_plain
   plain_read c =
       simp (
@@ -121,9 +119,9 @@ link_of u = link_at (place (0 + length (opening u))) (length (name u))
 
 module _ (u : Url) (c : Closes u) where
   -- a link, white space, and w
-  linked_on : (l : List Blank) (w : List ℕ) → Tight w → parse_linked (url_text u ++ (blanks l ++ w)) ≡ parse_fallback w (link_of u) (place (length (url_text u) + length l))
-  unfolding parse_linked bind link_of
-  linked_on l w t =
+  linked_on : (l : List Blank) (w : List ℕ) → Tight w → {v : PaintFallback} → parse_fallback w ≡ Ok v → parse_linked (url_text u ++ (blanks l ++ w)) ≡ Ok (P.FuncIRI (link_of u) (Some v))
+  unfolding parse_linked link_of
+  linked_on l w t q =
       let n = length (url_text u) in
       let s = url_text u ++ (blanks l ++ w) in
       let d : drop n s ≡ blanks l ++ w = drop_at (url_text u) (blanks l ++ w) n refl in
@@ -131,10 +129,10 @@ module _ (u : Url) (c : Closes u) where
       let f : drop (n + length l) s ≡ w = blanks_past s n l w d in
       let g : leb (length s) (n + length l) ≡ false = lt-leb (length s) (n + length l) (simp (length-append, length-map) (omega (arith, t.some))) in
       let h : 0 + length (opening u) ≡ length (opening u) = omega arith in
-      simp (link_read u c (blanks l ++ w), e, f, g, h)
+      simp (link_read u c (blanks l ++ w), e, f, g, h, q)
 
-  linked_alone : parse_linked (url_text u ++ []) ≡ R.Value (P.FuncIRI (link_of u) F.Absent)
-  unfolding parse_linked bind link_of scan run
+  linked_alone : parse_linked (url_text u ++ []) ≡ Ok (P.FuncIRI (link_of u) None)
+  unfolding parse_linked link_of scan run
   linked_alone =
       let n = length (url_text u) in
       let s = url_text u ++ [] in
@@ -152,15 +150,15 @@ word_tight : (w : List ℕ) → ltb 0 (length w) ≡ true → Ascii w → blank1
 word_tight w s a f l = record { some = ltb-true 0 (length w) s; in_ascii = a; first = f; last = l }
 
 module _ {Colour : Type 0} {colour : Colour → List ℕ} {channels : Colour → Color} (k : Coloured colour channels) where
-  linked_read : (u : Url) → Closes u → (f : S.Fallback Colour) → parse_linked (url_text u ++ fallback_text colour f) ≡ R.Value (P.FuncIRI (link_of u) (fallback_of channels f))
+  linked_read : (u : Url) → Closes u → (f : S.Fallback Colour) → parse_linked (url_text u ++ fallback_text colour f) ≡ Ok (P.FuncIRI (link_of u) (fallback_of channels f))
   unfolding fallback_text fallback_of parse_fallback same blank1
   linked_read u c S.absent = linked_alone u c
-  linked_read u c (S.no_paint l) = linked_on u c l (ascii "none") (word_tight _ refl refl refl refl)
-  linked_read u c (S.current l) = linked_on u c l (ascii "currentColor") (word_tight _ refl refl refl refl)
+  linked_read u c (S.no_paint l) = linked_on u c l (ascii "none") (word_tight _ refl refl refl refl) refl
+  linked_read u c (S.current l) = linked_on u c l (ascii "currentColor") (word_tight _ refl refl refl refl) refl
   linked_read u c (S.coloured l d) =
-      linked_on u c l (colour d) (k.tight d) ∙ simp (not_word k d (ascii "none") apart.none, not_word k d (ascii "currentColor") apart.current, k.read d)
+      linked_on u c l (colour d) (k.tight d) (simp (not_word k d (ascii "none") apart.none, not_word k d (ascii "currentColor") apart.current, k.read d))
 
-  paint_parsed : (t : S.Paint Colour) → PaintCloses t → parse_paint (paint_text colour t) ≡ R.Value (paint_of channels 0 t)
+  paint_parsed : (t : S.Paint Colour) → PaintCloses t → parse_paint (paint_text colour t) ≡ Ok (paint_of channels 0 t)
   unfolding paint_text paint_of parse_paint same link_of
   paint_parsed S.none c = refl
   paint_parsed S.inherit c = refl
@@ -197,14 +195,14 @@ module _ {Colour : Type 0} {colour : Colour → List ℕ} {channels : Colour →
 
   -- a paint, with white space around it
   pub paint_read : (before after : List Blank) (t : S.Paint Colour) → PaintCloses t → length (blanks before ++ (paint_text colour t ++ blanks after)) ≤ 4096
-      → from_str (blanks before ++ (paint_text colour t ++ blanks after)) ≡ A.Value (paint_of channels (length before) t)
-  unfolding from_str bind
+      → from_str (blanks before ++ (paint_text colour t ++ blanks after)) ≡ Ok (paint_of channels (length before) t)
+  unfolding from_str parse_trimmed
   paint_read before after t c h =
       let x = paint_text colour t in
       let s = blanks before ++ (x ++ blanks after) in
       let w : Clean x = paint_clean t in
       let e : Written s = written_append (blanks_written before) (written_append (clean_written w) (blanks_written after)) in
-      simp (written_admitted s e h, trim_is before x after w, paint_parsed t c, start_is before x after w) (ap A.Value (paint_moved (length before) t))
+      simp (written_admitted s e h, trim_is before x after w, paint_parsed t c, start_is before x after w) (ap Ok (paint_moved (length before) t))
 
   -- the part that a link is told by holds the bytes of its name
   pub link_bytes_of : (before after : List Blank) (u : Url) (f : S.Fallback Colour)

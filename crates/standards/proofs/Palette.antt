@@ -12,16 +12,15 @@ use lib.Seq.{drop_at}
 use Rattle.utf8.specs.Blanks.{blank1}
 use Rattle.text_bytes.specs.Bytes.{within, is_lower, is_hex_digit, is_space, is_ascii_ident}
 use Rattle.text_bytes.specs.Moves.{place}
-use Rattle.text_bytes.specs.Flow.{bind}
 use Rattle.text_bytes.specs.Scan.{scan, run}
 use Rattle.text_bytes.specs.Words.{ascii}
 use Rattle.text_bytes.proofs.Ranges.{and_first, and_second, either, le_or_lt, within_high, within_ge, within_le, all_from}
 use Rattle.numbers.specs.Number.{starts_number}
 use Rattle.color.specs.Answer.{from_str}
-use Rattle.color.specs.Color.{rgba, parse_color, parse_color_text}
+use Rattle.color.specs.Color.{parse_color, parse_color_text}
+use Rattle.color.specs.Hex.{rgba}
 use Rattle.color.specs.declared.Color.{Color}
-use Rattle.color.specs.declared.ColorRead.TheVariants as C
-use Rattle.color.specs.declared.ColorAnswer.TheVariants as A
+use Rattle.std.specs.Prelude.{Ok}
 use Rattle.standards.specs.CssValues3.{Blank, blanks, Number, number, percentage}
 use Rattle.standards.specs.CssColor3 as K
 use Rattle.standards.specs.CssColor3.{Spelling, done, small, capital, spelling, integer, Spaced, spaced, Rgb, integers, percentages, Hsl, rgb_values, hsl_values, Functional, functional}
@@ -29,7 +28,7 @@ use Rattle.standards.specs.CssColor3Names.{keywords}
 use Rattle.standards.specs.CssColor4 as X
 use Rattle.standards.specs.CssColor4.{HexColor, hex_text}
 use Rattle.standards.specs.Colors.{line, Colour, hex, keyword, transparent, function, colour}
-use Rattle.standards.specs.Answers.{color_of}
+use Rattle.standards.specs.Answers.{color_of, read_on}
 use Rattle.standards.proofs.Numbers.{numbers_read}
 use Rattle.standards.proofs.Runs.{every, every_map, blanks_end, Ascii, ascii_append, blanks_ascii, number_ascii}
 use Rattle.standards.proofs.Tight.{Tight, tight_around}
@@ -68,13 +67,11 @@ seen_test : (p : ℕ → Bool) → T (all_from p 33 94) → (b : ℕ) → is_see
 seen_test p h b e = in_range p 33 94 h b (omega (arith, within_ge 33 126 b (sym e))) (omega (arith, within_le 33 126 b (sym e)))
 
 seen_ascii : (s : List ℕ) → every is_seen s ≡ true → Ascii s
-unfolding every
 seen_ascii [] e = refl
 seen_ascii (x ∷ xs) e =
     rw (seen_test (λ b. ltb b 128) tt x (and_first (is_seen x) (every is_seen xs) e)) (seen_ascii xs (and_second (is_seen x) (every is_seen xs) e))
 
 every_at : (p : ℕ → Bool) (s : List ℕ) (i : ℕ) → every p s ≡ true → i < length s → p (get_or s i 0) ≡ true
-unfolding every
 every_at p [] i e h = absurd (omega arith)
 every_at p (x ∷ xs) zero e h = and_first (p x) (every p xs) e
 every_at p (x ∷ xs) (suc i) e h = every_at p xs i (and_second (p x) (every p xs) e) (omega arith)
@@ -99,7 +96,7 @@ tight_seen s e h =
 
 -- spelt names are seen, and as long as they are
 spelled_seen : {n : List ℕ} (w : Spelling n) → every is_lower n ≡ true → every is_seen (spelling w) ≡ true
-unfolding spelling every within
+unfolding spelling within
 spelled_seen done e = refl
 spelled_seen (small c {n} w) e = simp (at_letter is_seen tt c (and_first (is_lower c) (every is_lower n) e), spelled_seen w (and_second (is_lower c) (every is_lower n) e))
 spelled_seen (capital c {n} w) e =
@@ -122,7 +119,7 @@ module _ {n : List ℕ} (w : Spelling n) (e : (every is_lower n && ltb 0 (length
   spelled_tight = tight_seen (spelling w) (spelled_seen w letters) (omega (arith, some, spelled_length w))
 
 spelled_first : {n : List ℕ} (w : Spelling n) → (every is_lower n && ltb 0 (length n)) ≡ true → (x : List ℕ) → is_first (get_or (spelling w ++ x) 0 0) ≡ true
-unfolding spelling every within
+unfolding spelling within
 spelled_first done e x = absurd (omega (arith, some done e))
 spelled_first (small c {n} w) e x = at_letter is_first tt c (and_first (is_lower c) (every is_lower n) (letters (small c w) e))
 spelled_first (capital c {n} w) e x = at_letter (λ b. is_first (b - 32)) tt c (and_first (is_lower c) (every is_lower n) (letters (small c w) e))
@@ -135,7 +132,7 @@ digit_seen (X.small n h) = in_range is_seen 97 6 tt (97 + n) (omega arith) (omeg
 digit_seen (X.capital n h) = in_range is_seen 65 6 tt (65 + n) (omega arith) (omega arith)
 
 hex_tight : (t : HexColor) → Tight (hex_text t)
-unfolding every within
+unfolding within
 hex_tight t = tight_seen (hex_text t) (every_map is_seen X.character digit_seen (X.digits t)) (omega arith)
 
 -- the values of a function are ASCII
@@ -166,24 +163,24 @@ hsl_ascii t = listed_ascii number percentage number_ascii percentage_ascii t.hue
 -- a name and brackets
 module _ {n : List ℕ} (w : Spelling n) (e : (every is_lower n && ltb 0 (length n)) ≡ true) (values : List ℕ) (p : Ascii values) where
   called_tight : Tight (spelling w ++ (40 ∷ (values ++ (41 ∷ []))))
-  unfolding every within
+  unfolding within
   called_tight = tight_around (40 ∷ values) (spelled_tight w e) p (tight_seen (41 ∷ []) refl (omega arith))
 
   faded_tight : (a : Spaced Number) → Tight (spelling w ++ (40 ∷ (values ++ (44 ∷ (spaced number a ++ (41 ∷ []))))))
-  unfolding every within
+  unfolding within
   faded_tight a =
       simp append_assoc at
       (tight_around (40 ∷ (values ++ (44 ∷ spaced number a))) (spelled_tight w e) (ascii_append values (44 ∷ spaced number a) p (spaced_ascii number number_ascii a)) (tight_seen (41 ∷ []) refl (omega arith)))
 
 functional_tight : (t : Functional) → Tight (functional t)
-unfolding functional every within
+unfolding functional within
 functional_tight (K.rgb w t) = called_tight w refl (rgb_values t) (rgb_ascii t)
 functional_tight (K.rgba w t a) = faded_tight w refl (rgb_values t) (rgb_ascii t) a
 functional_tight (K.hsl w t) = called_tight w refl (hsl_values t) (hsl_ascii t)
 functional_tight (K.hsla w t a) = faded_tight w refl (hsl_values t) (hsl_ascii t) a
 
 functional_first : (t : Functional) (rest : List ℕ) → is_first (get_or (functional t ++ rest) 0 0) ≡ true
-unfolding functional every within
+unfolding functional within
 functional_first (K.rgb w t) rest = rw append_assoc (spelled_first w refl _)
 functional_first (K.rgba w t a) rest = rw append_assoc (spelled_first w refl _)
 functional_first (K.hsl w t) rest = rw append_assoc (spelled_first w refl _)
@@ -191,14 +188,14 @@ functional_first (K.hsla w t a) rest = rw append_assoc (spelled_first w refl _)
 
 -- a colour has no white space at its ends
 pub colour_tight : (t : Colour) → Tight (colour t)
-unfolding colour every within
+unfolding colour within
 colour_tight (hex t) = hex_tight t
 colour_tight (keyword k h w) = spelled_tight w (letters_of k h)
 colour_tight (transparent w) = spelled_tight w refl
 colour_tight (function t d) = functional_tight t
 
 colour_first : (t : Colour) (rest : List ℕ) → is_first (get_or (colour t ++ rest) 0 0) ≡ true
-unfolding colour every within
+unfolding colour within
 colour_first (hex t) rest = refl
 colour_first (keyword k h w) rest = spelled_first w (letters_of k h) rest
 colour_first (transparent w) rest = spelled_first w refl rest
@@ -213,8 +210,8 @@ no_digit b e =
     (le_or_lt 128 b)
 
 -- THEOREM. Every colour is read with its channels, and reading goes on right after it, where no letter, digit, `-` or `_` follows: `)`, white space and the end of the text are none.
-pub colour_read : (t : Colour) (rest : List ℕ) → is_ascii_ident (get_or rest 0 0) ≡ false → parse_color (colour t ++ rest) 0 ≡ C.Value (channels t) (place (length (colour t)))
-unfolding colour every within
+pub colour_read : (t : Colour) (rest : List ℕ) → is_ascii_ident (get_or rest 0 0) ≡ false → parse_color (colour t ++ rest) 0 ≡ read_on (channels t) (place (length (colour t)))
+unfolding colour within
 colour_read (hex t) rest e =
     let n : length (hex_text t) ≡ 1 + length (X.digits t) = omega (arith, length-map (X.digits t) X.character) in
     rw n (H.hex_read t rest (no_digit (get_or rest 0 0) e))
@@ -223,18 +220,18 @@ colour_read (transparent w) rest e = names_transparent (spelling w) rest (spelle
 colour_read (function t d) rest e = F.functional_read numbers_read t d rest
 
 -- THEOREM. A colour with white space about it, of at most 4,096 bytes in all, is answered with its channels.
-pub colour_whole : (before after : List Blank) (t : Colour) → length (blanks before ++ (colour t ++ blanks after)) ≤ 4096 → from_str (blanks before ++ (colour t ++ blanks after)) ≡ A.Value (channels t)
+pub colour_whole : (before after : List Blank) (t : Colour) → length (blanks before ++ (colour t ++ blanks after)) ≤ 4096 → from_str (blanks before ++ (colour t ++ blanks after)) ≡ Ok (channels t)
 unfolding within
 colour_whole before after t h =
     color_text before after (colour t) (channels t) (simp (length-append, length-map) at h) (colour_tight t).in_ascii
     (colour_read t (blanks after) (blanks_end is_ascii_ident refl refl refl refl refl after))
 
 -- as a whole text with nothing about it
-alone_read : (t : Colour) → parse_color_text (colour t) ≡ C.Value (channels t) (place (length (colour t)))
-unfolding parse_color_text bind scan run within
+alone_read : (t : Colour) → parse_color_text (colour t) ≡ read_on (channels t) (place (length (colour t)))
+unfolding parse_color_text scan run within
 alone_read t =
     let s = colour t in
-    let e : parse_color s 0 ≡ C.Value (channels t) (place (length s)) = rw append-nil at (colour_read t [] refl) in
+    let e : parse_color s 0 ≡ read_on (channels t) (place (length s)) = rw append-nil at (colour_read t [] refl) in
     let d : drop (length s) s ≡ [] = rw append-nil at (drop_at s [] (length s) refl) in
     simp (e, d, le-ltb (length s + 0) (length s) (omega arith))
 

@@ -1,29 +1,23 @@
 -- Classes of bytes: runs of one class, white space, and ASCII texts, which are UTF-8, admitted, and at each place on a character.
 use Prim.Native.Nat.{ℕ, zero, suc, ◌+◌, ◌≤◌, ◌<◌}
-use mathlib.Core.Bool.{Bool, true, false, ◌&&◌}
+use mathlib.Core.Bool.{Bool, true, false}
 use mathlib.Core.List.{List, [], ◌∷◌, ◌++◌, map, append-nil}
 use mathlib.Core.Logic.{⊎_elim}
-use mathlib.Core.Path.{◌≡◌, refl, sym, ◌∙◌}
+use mathlib.Core.Path.{◌≡◌, refl, ◌∙◌}
 use native.Mathlib.Omega.{arith}
-use borrow.Author.Tests.{ne_eqb, lt-ltb, ltb-true}
+use borrow.Author.Tests.{ne_eqb, lt-ltb, le-leb, ltb-true}
 use lib.Dec.{ltb, lit≤}
 use lib.ListN.{length, get_or, length-map}
 use Rattle.text_bytes.specs.Bytes.{is_space}
 use Rattle.utf8.specs.Characters.{walk, utf8_of, on_character}
-use Rattle.stream.specs.Refusals.{admit_text}
+use Rattle.stream.specs.Refusals.{admit_utf8, admit_text}
 use Rattle.text_bytes.specs.Scan.{run}
-use Rattle.stream.specs.declared.Admission.TheVariants.{Admitted}
-use Rattle.utf8.specs.declared.Utf8.TheVariants.{WellFormed}
 use Rattle.utf8.proofs.Counting.{on_byte, on_end}
-use Rattle.stream.proofs.Edges.{admit_good}
 use Rattle.utf8.proofs.Octets.{char_ascii}
 use Rattle.text_bytes.proofs.Ranges.{and_first, and_second, le_or_lt, within_low}
+use Rattle.std.specs.Prelude.{Ok}
 use Rattle.standards.specs.CssValues3.{Blank, space, tab, line_feed, return, blank, blanks, Digit, numeral, numerals, Sign, unsigned, plus, minus, sign, Digits, whole, dotted, digits, Exponent, absent, small, capital, exponent, Number, number}
-
--- all bytes are of the class
-abbrev pub every : (ℕ → Bool) → List ℕ → Bool
-every p [] = true
-every p (x ∷ xs) = p x && every p xs
+pub use Rattle.standards.specs.Written.{every}
 
 module _ (p : ℕ → Bool) where
   pub every_map : {A : Type 0} (f : A → ℕ) → ((a : A) → p (f a) ≡ true) → (l : List A) → every p (map f l) ≡ true
@@ -91,18 +85,22 @@ ascii_byte [] i e = lit≤ tt
 ascii_byte (x ∷ xs) zero e = ltb-true x 128 (and_first (ltb x 128) (every is_ascii xs) e)
 ascii_byte (x ∷ xs) (suc i) e = ascii_byte xs i (ascii_rest x xs e)
 
-walk_ascii : (i : ℕ) (s : List ℕ) → Ascii s → walk i 0 s ≡ WellFormed
+walk_ascii : (i : ℕ) (s : List ℕ) → Ascii s → walk i 0 s ≡ Ok tt
 unfolding walk
 walk_ascii i [] e = refl
 walk_ascii i (x ∷ xs) e = simp (char_ascii x xs (ascii_byte (x ∷ xs) 0 e)) (walk_ascii (i + 1) xs (ascii_rest x xs e))
 
-pub utf8_ascii : (s : List ℕ) → Ascii s → utf8_of s ≡ WellFormed
+pub utf8_ascii : (s : List ℕ) → Ascii s → utf8_of s ≡ Ok tt
 unfolding utf8_of
 utf8_ascii s e = walk_ascii 0 s e
 
 -- one that is short enough may be read
-pub ascii_admitted : (s : List ℕ) → Ascii s → length s ≤ 4096 → admit_text s ≡ Admitted
-ascii_admitted s e h = sym (admit_good s h refl (utf8_ascii s e))
+pub utf8_admitted : (s : List ℕ) → utf8_of s ≡ Ok tt → length s ≤ 4096 → admit_text s ≡ Ok tt
+unfolding admit_text admit_utf8
+utf8_admitted s e h = simp (le-leb (length s) 4096 h, e)
+
+pub ascii_admitted : (s : List ℕ) → Ascii s → length s ≤ 4096 → admit_text s ≡ Ok tt
+ascii_admitted s e h = utf8_admitted s (utf8_ascii s e) h
 
 pub on_ascii : (s : List ℕ) (i : ℕ) → Ascii s → i ≤ length s → on_character s i ≡ true
 on_ascii s i h l =

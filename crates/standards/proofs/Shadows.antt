@@ -10,58 +10,49 @@ use lib.ListN.{length, get_or, take, length-append, length-map}
 use Rattle.text_bytes.specs.Bytes.{within, is_space, is_ascii_ident}
 use Rattle.text_bytes.specs.Moves.{place}
 use Rattle.stream.specs.Faults.{invalid_value}
-use Rattle.text_bytes.specs.Flow.{bind}
 use Rattle.stream.specs.Refusals.{number_of, is_outside_domain}
 use Rattle.text_bytes.specs.Scan.{scan, run}
 use Rattle.text_bytes.specs.Words.{ascii, same, part, is_curr_byte_eq, lower_of, lowered}
-use Rattle.stream.specs.declared.Fault.{Fault}
-use Rattle.text_bytes.specs.declared.Place.{Place}
 use Rattle.text_bytes.proofs.Parts.{byte_inside}
 use Rattle.text_bytes.proofs.Ranges.{either}
 use Rattle.numbers.specs.Number.{starts_number, parse_number}
-use Rattle.numbers.specs.declared.Number.{Number}
 use Rattle.length.specs.Lengths.{parse_length}
 use Rattle.length.specs.Paper.{zero_length}
 use Rattle.length.specs.declared.Length.{Length}
-use Rattle.length.specs.declared.LengthRead.TheVariants as L
 use Rattle.names.specs.Keywords.{keywords}
 use Rattle.names.specs.Look.{look_up, named_of}
-use Rattle.names.specs.declared.Named.TheVariants as N
 use Rattle.names.proofs.Naming.{named_low}
 use Rattle.color.specs.Color.{is_rgb, is_hsl, named_color, parse_word, parse_color}
-use Rattle.color.specs.Moves.{move_color_read}
 use Rattle.color.specs.declared.Color.{Color}
-use Rattle.color.specs.declared.ColorRead.TheVariants as C
 use Rattle.color.proofs.Shifts.{color_shift}
-use Rattle.filter_functions.specs.Moves.{then_filter, then_tried, then_deviation, then_lengths}
 use Rattle.filter_functions.specs.Values.{parse_filter_length}
-use Rattle.filter_functions.specs.Shadow.{try_parse_color, parse_deviation, parse_shadow_lengths, shadow, shadow_after, shadow_before, parse_drop_shadow_func}
+use Rattle.filter_functions.specs.Shadow.{try_parse_color, parse_deviation, parse_shadow_lengths, shadow_after, shadow_before, parse_drop_shadow_func}
 use Rattle.filter_functions.specs.declared.FilterValue.{FilterValue}
-use Rattle.filter_functions.specs.declared.ShadowColor.{ShadowColor}
-use Rattle.filter_functions.specs.declared.ShadowColor.TheVariants as O
-use Rattle.standards.specs.CssValues3.{Blank, blanks, is_minus, number, is_integer}
+use Rattle.filter_functions.specs.declared.FilterValue.TheVariants as G
+use Rattle.std.specs.Prelude.{Ok, Err, Option, Some, None}
+use Rattle.stream.specs.Moves.{move_read, moved, stays}
+use Rattle.standards.specs.CssValues3.{Blank, blanks, is_minus}
 use Rattle.standards.specs.Domain.{InDomain, OffsetsTaken, ShadowTaken}
 use Rattle.standards.specs.FilterEffects1 as E
 use Rattle.standards.specs.FilterEffects1.{CssLength, css_length, Measure, measure, Offsets, two, three, offsets, gap}
-use Rattle.standards.specs.Answers.{unit_marked, measure_of, shadow_color}
+use Rattle.standards.specs.Answers.{unit_marked, measure_of, shadow_color, read_on}
 use Rattle.standards.proofs.Reading.{NumbersRead}
 use Rattle.standards.proofs.Cursors.{At, at_step, at_blanks, at_read, at_spaces, at_other, at_still, at_drop, at_get, at_more, starts_joined, no_word, differs}
 use Rattle.standards.proofs.Runs.{run_every, Ascii, First}
 use Rattle.standards.proofs.Marked.{Closes, gapped, closes_after, closes_word, nought_is, positive, first_space, length_at, length_first, no_percent}
 
--- What `parse_next`, `try_parse_color` and others answer has no name outside their crate: that it is the value v with the place j is that one goes on with these, whatever one does
-abbrev pub Gives : ((B : Type 0) → (Fault → B) → (FilterValue → Place → B) → B) → FilterValue → ℕ → Type 1
-Gives x v j = (B : Type 0) (out : Fault → B) (k : FilterValue → Place → B) → x B out k ≡ k v (place j)
-
 -- no colour at place i; one; two offsets and a deviation
-abbrev Missing : List ℕ → ℕ → Type 1
-Missing s i = (B : Type 0) (out : Fault → B) (missing : B) (k : ShadowColor → Place → B) → then_tried out missing (try_parse_color s i) k ≡ missing
+abbrev Missing : List ℕ → ℕ → Type 0
+Missing s i = try_parse_color s i ≡ Ok None
 
-abbrev Found : List ℕ → ℕ → ShadowColor → ℕ → Type 1
-Found s i c j = (B : Type 0) (out : Fault → B) (missing : B) (k : ShadowColor → Place → B) → then_tried out missing (try_parse_color s i) k ≡ k c (place j)
+abbrev Found : List ℕ → ℕ → Option Color → ℕ → Type 0
+Found s i c j = try_parse_color s i ≡ Ok (Some (record { value = c; next = place j }))
 
-abbrev Measured : List ℕ → ℕ → Length → Length → Length → ℕ → Type 1
-Measured s i dx dy d j = (B : Type 0) (out : Fault → B) (k : Length → Length → Length → Place → B) → then_lengths out (parse_shadow_lengths s 0 i) k ≡ k dx dy d (place j)
+abbrev Measured : List ℕ → ℕ → Length → Length → Length → ℕ → Type 0
+Measured s i dx dy d j = parse_shadow_lengths s 0 i ≡ Ok (record { value = record { dx = dx; dy = dy; deviation = d }; next = place j })
+
+abbrev shadow : Option Color → Length → Length → Length → FilterValue
+shadow c dx dy d = G.DropShadow (record { color = c; dx = dx; dy = dy; deviation = d })
 
 -- what a colour starts with
 pub record Begins (x : ℕ) : Type 0 where
@@ -71,7 +62,7 @@ pub record Begins (x : ℕ) : Type 0 where
 
 -- The colours of a shadow: how one is read, whatever closes it, and what it starts with; of ASCII
 pub record Coloured {Colour : Type 0} (colour : Colour → List ℕ) (channels : Colour → Color) : Type 0 where
-  pub front : (t : Colour) (rest : List ℕ) → Closes rest → parse_color (colour t ++ rest) 0 ≡ C.Value (channels t) (place (length (colour t)))
+  pub front : (t : Colour) (rest : List ℕ) → Closes rest → parse_color (colour t ++ rest) 0 ≡ read_on (channels t) (place (length (colour t)))
   pub begins : (t : Colour) (rest : List ℕ) → Begins (get_or (colour t ++ rest) 0 0)
   pub plain : (t : Colour) → Ascii (colour t)
 
@@ -112,14 +103,14 @@ same_head : (u : List ℕ) (y : ℕ) (v : List ℕ) → (get_or u 0 0 ≡ y → 
 same_head u y v n = differs u (y ∷ v) (λ e. n (ap (λ (x : List ℕ). get_or x 0 0) e))
 
 module _ {s : List ℕ} {i : ℕ} where
-  low_refused : {b : List ℕ} → Low b → At s i b → parse_color s i ≡ C.Refused (invalid_value (scan is_ascii_ident s i))
-  unfolding parse_color parse_word is_rgb is_hsl named_color part bind
+  low_refused : {b : List ℕ} → Low b → At s i b → parse_color s i ≡ Err (invalid_value (scan is_ascii_ident s i))
+  unfolding parse_color parse_word is_rgb is_hsl named_color part
   low_refused {b} l h =
       let end = scan is_ascii_ident s i in
       let w = take (end - i) b in
       let t : get_or w 0 0 < 65 = omega (arith, take_head (end - i) b, l.low) in
       let g : get_or (lowered w) 0 0 < 65 = rw (lower_head w t) t in
-      let n : named_of w ≡ N.Unknown = sym (named_low w {b = get_or w 0 0} {c = lower_of (get_or w 0 0)} refl refl (rw (lower_low (get_or w 0 0) t) (omega arith))) in
+      let n : named_of w ≡ None = sym (named_low w {b = get_or w 0 0} {c = lower_of (get_or w 0 0)} refl refl (rw (lower_low (get_or w 0 0) t) (omega arith))) in
       simp (
         at_still l.unspaced h,
         at_more l.some h,
@@ -135,18 +126,18 @@ module _ {s : List ℕ} {i : ℕ} where
 
   none_there : {b : List ℕ} → Low b → At s i b → Missing s i
   unfolding try_parse_color is_outside_domain number_of
-  none_there {b} l h B out missing k = simp (low_refused l h, at_drop h, no_word 99 (ascii "urrentColor") b (ne_eqb (get_or b 0 0) 99 (λ e. omega (arith, l.low))))
+  none_there {b} l h = simp (low_refused l h, at_drop h, no_word 99 (ascii "urrentColor") b (ne_eqb (get_or b 0 0) 99 (λ e. omega (arith, l.low))))
 
 -- `currentColor` names no colour, and is tried after those
 abbrev current : List ℕ
 current = ascii "currentColor"
 
-current_unknown : named_of current ≡ N.Unknown
+current_unknown : named_of current ≡ None
 unfolding named_of look_up keywords same lower_of within
 current_unknown = refl
 
-current_front : {b : List ℕ} → Closes b → parse_color (current ++ b) 0 ≡ C.Refused (invalid_value 12)
-unfolding parse_color parse_word is_rgb is_hsl named_color part bind scan run within same lower_of
+current_front : {b : List ℕ} → Closes b → parse_color (current ++ b) 0 ≡ Err (invalid_value 12)
+unfolding parse_color parse_word is_rgb is_hsl named_color part scan run within same lower_of
 current_front {b} c = simp (run_every is_ascii_ident [] b refl (closes_word c), current_unknown, lt-leb (length (current ++ b)) 0 (omega arith))
 
 module _ {Colour : Type 0} {colour : Colour → List ℕ} {channels : Colour → Color} (coloured : Coloured colour channels) where
@@ -157,11 +148,11 @@ module _ {Colour : Type 0} {colour : Colour → List ℕ} {channels : Colour →
 
   tint_at : {s : List ℕ} {i : ℕ} (c : E.Tint Colour) {b : List ℕ} → Closes b → At s i (E.tint_text colour c ++ b) → Found s i (shadow_color channels c) (i + length (E.tint_text colour c))
   unfolding E.tint_text shadow_color try_parse_color is_outside_domain number_of
-  tint_at {s} {i} E.current {b} e h B out missing k =
-      let p = at_read parse_color move_color_read (λ a b j. color_shift a b j) h in
+  tint_at {s} {i} E.current {b} e h =
+      let p = at_read parse_color (moved (move_read stays)) (λ a b j. color_shift a b j) h in
       simp (p, current_front e, at_drop h, starts_joined current b)
-  tint_at {s} {i} (E.tint c) {b} e h B out missing k =
-      let p = at_read parse_color move_color_read (λ a b j. color_shift a b j) h in
+  tint_at {s} {i} (E.tint c) {b} e h =
+      let p = at_read parse_color (moved (move_read stays)) (λ a b j. color_shift a b j) h in
       simp (p, coloured.front c b e)
 
 -- what ends a shadow's lengths: neither white space nor a number
@@ -174,29 +165,29 @@ unfolding within
 bracket_stops r = record { unspaced = refl; no_number = refl }
 
 -- the deviation, and the white space after it; or none
-abbrev Deviates : List ℕ → ℕ → Length → ℕ → Type 1
-Deviates s i d j = (B : Type 0) (out : Fault → B) (k : Length → Place → B) → then_deviation out (parse_deviation s i) k ≡ k d (place j)
+abbrev Deviates : List ℕ → ℕ → Length → ℕ → Type 0
+Deviates s i d j = parse_deviation s i ≡ read_on d (place j)
 
 deviation_none : {s : List ℕ} {i : ℕ} {b : List ℕ} → Stops b → At s i b → Deviates s i zero_length i
-unfolding parse_deviation parse_length parse_number is_outside_domain number_of bind
-deviation_none {s} {i} {b} t h B out k =
+unfolding parse_deviation parse_length parse_number is_outside_domain number_of
+deviation_none {s} {i} {b} t h =
     either (leb (length s) i) (λ e. simp (at_still t.unspaced h, e)) (λ e. simp (at_still t.unspaced h, e, at_get h, t.no_number))
 
 -- the lengths, step by step
-lengths_are : (s : List ℕ) (i i1 i2 i3 i4 i5 : ℕ) (dx dy d : Length) (m n : Number) → parse_filter_length s 0 i ≡ L.Value dx m (place i1) → scan is_space s i1 ≡ i2
-    → parse_filter_length s 0 i2 ≡ L.Value dy n (place i3) → scan is_space s i3 ≡ i4 → Deviates s i4 d i5 → Measured s i dx dy d i5
-unfolding parse_shadow_lengths bind
-lengths_are s i i1 i2 i3 i4 i5 dx dy d m n a b c e f B out k = simp (a, b, c, e, f)
+lengths_are : (s : List ℕ) (i i1 i2 i3 i4 i5 : ℕ) (dx dy d : Length) → parse_filter_length s 0 i ≡ read_on dx (place i1) → scan is_space s i1 ≡ i2
+    → parse_filter_length s 0 i2 ≡ read_on dy (place i3) → scan is_space s i3 ≡ i4 → Deviates s i4 d i5 → Measured s i dx dy d i5
+unfolding parse_shadow_lengths
+lengths_are s i i1 i2 i3 i4 i5 dx dy d a b c e f = simp (a, b, c, e, f)
 
 module _ (r : NumbersRead) {s : List ℕ} where
   deviation_at : {i : ℕ} (d : CssLength) (l : List Blank) {b : List ℕ} → is_minus d.size.signed ≡ false → InDomain d.size → Closes (blanks l ++ b) → Stops b
       → At s i (css_length d ++ (blanks l ++ b)) → Deviates s i (measure_of (measure d)) (i + length (css_length d) + length l)
-  unfolding parse_deviation measure bind
-  deviation_at d l {b} p w c t h B out k =
+  unfolding parse_deviation measure
+  deviation_at d l {b} p w c t h =
       simp (length_at r d w c h, positive d.size p, no_percent, at_spaces l b t.unspaced (at_step (css_length d) (blanks l ++ b) h))
 
   offset_at : {i : ℕ} (l : CssLength) {b : List ℕ} → InDomain l.size → Closes b → At s i (css_length l ++ b)
-      → parse_filter_length s 0 i ≡ L.Value (measure_of (measure l)) (record { value = (measure l).size; whole = is_integer l.size; end = place (i + length (number l.size)) }) (place (i + length (css_length l)))
+      → parse_filter_length s 0 i ≡ read_on (measure_of (measure l)) (place (i + length (css_length l)))
   unfolding parse_filter_length measure
   offset_at l w c h = simp (length_at r l w c h, no_percent)
 
@@ -227,7 +218,7 @@ module _ (r : NumbersRead) {s : List ℕ} {i : ℕ} where
       let a4 = at_blanks l b a3 in
       let z : i + length x + length (c ∷ g) + length y + length l ≡ i + length (x ++ (gap c g ++ y)) + length l = simp (length-append, length-map) (omega arith) in
       rw (← z, nought_is)
-      (lengths_are s i _ _ _ _ _ _ _ _ _ _ (offset_at r dx w.0 (gapped c _) a0) (at_spaces (c ∷ g) (y ++ (blanks l ++ b)) (first_space (length_first dy (blanks l ++ b))) a1)
+      (lengths_are s i _ _ _ _ _ _ _ _ (offset_at r dx w.0 (gapped c _) a0) (at_spaces (c ∷ g) (y ++ (blanks l ++ b)) (first_space (length_first dy (blanks l ++ b))) a1)
       (offset_at r dy w.1 e a2) (at_spaces l b t.unspaced a3) (deviation_none t a4))
   offsets_at (three dx c g dy q m d p) l {b} w e t h =
       let x = css_length dx in
@@ -240,26 +231,26 @@ module _ (r : NumbersRead) {s : List ℕ} {i : ℕ} where
       let a4 = at_blanks (q ∷ m) (v ++ (blanks l ++ b)) a3 in
       let z : i + length x + length (c ∷ g) + length y + length (q ∷ m) + length v + length l ≡ i + length (x ++ (gap c g ++ (y ++ (gap q m ++ v)))) + length l = simp (length-append, length-map) (omega arith) in
       rw (← z)
-      (lengths_are s i _ _ _ _ _ _ _ _ _ _ (offset_at r dx w.0 (gapped c _) a0)
+      (lengths_are s i _ _ _ _ _ _ _ _ (offset_at r dx w.0 (gapped c _) a0)
       (at_spaces (c ∷ g) (y ++ (gap q m ++ (v ++ (blanks l ++ b)))) (first_space (length_first dy (gap q m ++ (v ++ (blanks l ++ b))))) a1)
       (offset_at r dy w.1 (gapped q _) a2) (at_spaces (q ∷ m) (v ++ (blanks l ++ b)) (first_space (length_first d (blanks l ++ b))) a3)
       (deviation_at r d l p w.2 e t a4))
 
 -- the shadow, step by step: with no colour, with one before the lengths, with one after them
 bare_is : (s : List ℕ) (i j : ℕ) (dx dy d : Length) → is_curr_byte_eq s i 41 ≡ false → Missing s i → Measured s i dx dy d j → Missing s j
-    → Gives (λ B out k. then_filter out (parse_drop_shadow_func s 0 i) k) (shadow O.None dx dy d) j
-unfolding parse_drop_shadow_func shadow_before bind
-bare_is s i j dx dy d a b c e B out k = simp (a, b, c, e)
+    → parse_drop_shadow_func s 0 i ≡ read_on (shadow None dx dy d) (place j)
+unfolding parse_drop_shadow_func shadow_before
+bare_is s i j dx dy d a b c e = simp (a, b, c, e)
 
-before_is : (s : List ℕ) (i i1 i2 j : ℕ) (x : ShadowColor) (dx dy d : Length) → is_curr_byte_eq s i 41 ≡ false → Found s i x i1 → scan is_space s i1 ≡ i2 → Measured s i2 dx dy d j
-    → Gives (λ B out k. then_filter out (parse_drop_shadow_func s 0 i) k) (shadow x dx dy d) j
-unfolding parse_drop_shadow_func shadow_after bind
-before_is s i i1 i2 j x dx dy d a b c e B out k = simp (a, b, c, e)
+before_is : (s : List ℕ) (i i1 i2 j : ℕ) (x : Option Color) (dx dy d : Length) → is_curr_byte_eq s i 41 ≡ false → Found s i x i1 → scan is_space s i1 ≡ i2 → Measured s i2 dx dy d j
+    → parse_drop_shadow_func s 0 i ≡ read_on (shadow x dx dy d) (place j)
+unfolding parse_drop_shadow_func shadow_after
+before_is s i i1 i2 j x dx dy d a b c e = simp (a, b, c, e)
 
-after_is : (s : List ℕ) (i i1 j : ℕ) (x : ShadowColor) (dx dy d : Length) → is_curr_byte_eq s i 41 ≡ false → Missing s i → Measured s i dx dy d i1 → Found s i1 x j
-    → Gives (λ B out k. then_filter out (parse_drop_shadow_func s 0 i) k) (shadow x dx dy d) j
-unfolding parse_drop_shadow_func shadow_before bind
-after_is s i i1 j x dx dy d a b c e B out k = simp (a, b, c, e)
+after_is : (s : List ℕ) (i i1 j : ℕ) (x : Option Color) (dx dy d : Length) → is_curr_byte_eq s i 41 ≡ false → Missing s i → Measured s i dx dy d i1 → Found s i1 x j
+    → parse_drop_shadow_func s 0 i ≡ read_on (shadow x dx dy d) (place j)
+unfolding parse_drop_shadow_func shadow_before
+after_is s i i1 j x dx dy d a b c e = simp (a, b, c, e)
 
 offsets_first : (o : Offsets) (b : List ℕ) → First (get_or (offsets o ++ b) 0 0)
 unfolding offsets
@@ -287,7 +278,7 @@ shadow_of channels d = let o = offsets_of d in shadow (shadow_color channels (ti
 
 module _ (r : NumbersRead) {Colour : Type 0} {colour : Colour → List ℕ} {channels : Colour → Color} (coloured : Coloured colour channels) {s : List ℕ} {i : ℕ} where
   pub shadow_at : (d : E.Shadow Colour) (m : List Blank) (rest : List ℕ) → ShadowTaken d → At s i (E.shadow_text colour d ++ (blanks m ++ (41 ∷ rest)))
-      → Gives (λ B out k. then_filter out (parse_drop_shadow_func s 0 i) k) (shadow_of channels d) (i + length (E.shadow_text colour d) + length (passed_with d m))
+      → parse_drop_shadow_func s 0 i ≡ read_on (shadow_of channels d) (place (i + length (E.shadow_text colour d) + length (passed_with d m)))
   unfolding E.shadow_text shadow_color
   shadow_at (E.bare o) m rest w h =
       let b = blanks m ++ (41 ∷ rest) in

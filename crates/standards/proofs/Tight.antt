@@ -8,15 +8,13 @@ use lib.ListN.{length, get_or, length-append, length-map, get_or-append}
 use lib.Seq.{get_or-append-add}
 use Rattle.utf8.specs.Blanks.{blank1, trim_start, trim_end, trim_of}
 use Rattle.utf8.specs.Characters.{utf8_of}
-use Rattle.utf8.specs.declared.Utf8.TheVariants.{WellFormed}
 use Rattle.stream.specs.Refusals.{admit_text}
-use Rattle.stream.specs.declared.Admission.TheVariants.{Admitted}
-use Rattle.stream.proofs.Edges.{admit_good}
+use Rattle.std.specs.Prelude.{Ok}
 use Rattle.standards.specs.Rfc3629.{Octet, Char, utf8_1, octets, text, scalar}
-use Rattle.standards.specs.Unicode.{is_white, white, ends_white}
+use Rattle.standards.specs.Unicode.{is_white, white, ends_white, all_white, begins_white}
 use Rattle.standards.specs.CssValues3.{Blank, space, tab, line_feed, return, blank, blanks}
-use Rattle.standards.proofs.Runs.{Ascii, ascii_append, ascii_rest, ascii_byte, blanks_ascii}
-use Rattle.standards.proofs.Trim.{white1, all_white, begins_white, text_append, trim_start_is, trim_end_is, ends_append}
+use Rattle.standards.proofs.Runs.{Ascii, ascii_append, ascii_rest, ascii_byte, blanks_ascii, utf8_admitted}
+use Rattle.standards.proofs.Trim.{white1, text_append, trim_start_is, trim_end_is, ends_append}
 use Rattle.standards.proofs.Trim as T
 use Rattle.standards.proofs.Utf8.{Written, utf8_accepts}
 
@@ -148,8 +146,8 @@ pub clean_written : {x : List ℕ} → Clean x → Written x
 clean_written t = record { chars = t.first ∷ t.others; same = t.same }
 
 -- and if it is short enough it may be read
-pub written_admitted : (s : List ℕ) → Written s → length s ≤ 4096 → admit_text s ≡ Admitted
-written_admitted s w h = let u : utf8_of s ≡ WellFormed = rw w.same at (utf8_accepts w.chars) in sym (admit_good s h refl u)
+pub written_admitted : (s : List ℕ) → Written s → length s ≤ 4096 → admit_text s ≡ Ok tt
+written_admitted s w h = let u : utf8_of s ≡ Ok tt = rw w.same at (utf8_accepts w.chars) in utf8_admitted s u h
 
 -- a text is tight where its two ends are
 pub tight_around : {a w : List ℕ} (m : List ℕ) → Tight a → Ascii m → Tight w → Tight (a ++ (m ++ w))

@@ -1,6 +1,6 @@
 -- Unicode's White_Space (PropList.txt), over the characters of RFC 3629, sections 3 and 4: trimming takes off the White_Space characters at the ends of a text, and nothing else.
 use Prim.Native.Nat.{ℕ, suc, ◌+◌, ◌-◌, ◌≤◌, ◌<◌}
-use mathlib.Core.Bool.{Bool, true, false, ◌&&◌, cond, not}
+use mathlib.Core.Bool.{Bool, true, false, cond, not}
 use mathlib.Core.List.{List, [], ◌∷◌, ◌++◌, append-nil, append_assoc}
 use mathlib.Core.Path.{◌≡◌, refl, sym, ap, ◌∙◌}
 use mathlib.Core.Logic.{⊎_elim}
@@ -14,8 +14,9 @@ use Rattle.utf8.specs.Blanks.{blank1, blank2, blank3, blank_len, blank_end, blan
 use Rattle.text_bytes.proofs.Ranges.{all_from, across, lt_or_le, and_false, and_first, and_second}
 use Rattle.utf8.proofs.Trimming.{blank_drop, Fronting, front_start, front_end, front_stop, front_go, Backing, back_start, back_end, back_stop, back_go}
 use Rattle.standards.specs.Rfc3629.{Octet, Tail, Char, utf8_1, utf8_2, utf8_3_e0, utf8_3_e1, utf8_3_ed, utf8_3_ee, utf8_4_f0, utf8_4_f1, utf8_4_f4, octets, text, two, three, four, scalar}
-use Rattle.standards.specs.Unicode.{is_white, white, ends_white}
+use Rattle.standards.specs.Unicode.{is_white, white, ends_white, all_white, begins_white}
 use Rattle.standards.proofs.Utf8.{octets_some}
+use Rattle.standards.specs.Texts.{Parts}
 
 abbrev alike : Bool → Bool → Bool
 alike true t = t
@@ -153,14 +154,6 @@ end_of l n (shape3 a b c w) s t =
 end_of l n (shape4 a b c d w) s t =
     simp (before_in s l t, blank1_none d.is d.from, blank2_none c.is d.is (λ e. omega arith), blank3_none b.is c.is d.is (λ x y. omega arith), white_high n (omega arith))
 
-unfoldable pub all_white : List Char → Bool
-all_white [] = true
-all_white (c ∷ cs) = white c && all_white cs
-
-unfoldable pub begins_white : List Char → Bool
-begins_white [] = false
-begins_white (c ∷ cs) = white c
-
 pub text_append : (a b : List Char) → text (a ++ b) ≡ text a ++ text b
 unfolding text
 text_append [] b = refl
@@ -221,17 +214,6 @@ all_append : (a b : List Char) → all_white a ≡ true → all_white b ≡ true
 unfolding all_white
 all_append [] b p q = q
 all_append (c ∷ cs) b p q = rw (and_first (white c) (all_white cs) p) (all_append cs b (and_second (white c) (all_white cs) p) q)
-
--- a text in three parts: White_Space, a middle that is empty or neither begins nor ends with it, White_Space
-pub record Parts (cs : List Char) : Type 0 where
-  pub before : List Char
-  pub middle : List Char
-  pub after : List Char
-  pub whole : cs ≡ before ++ (middle ++ after)
-  pub white_before : all_white before ≡ true
-  pub bare_start : begins_white middle ≡ false
-  pub bare_end : ends_white middle ≡ false
-  pub white_after : all_white after ≡ true
 
 -- THEOREM. Trimming a text leaves its middle.
 pub trim_is : (cs : List Char) (p : Parts cs) → trim_of (text cs) ≡ text p.middle

@@ -9,11 +9,11 @@ use lib.Dec.{eqb}
 use lib.ListN.{length, get_or, drop}
 use Rattle.text_bytes.specs.Bytes.{within, is_lower}
 use Rattle.text_bytes.specs.Moves.{place}
+use Rattle.std.specs.Prelude.{Some, None}
 use Rattle.text_bytes.specs.Words.{starts_with}
-use Rattle.length.specs.Lengths.{unit_at, unit_rest, unit_width}
+use Rattle.length.specs.Lengths.{unit_at, unit_width}
 use Rattle.length.specs.declared.LengthUnit.TheVariants as U
 use Rattle.angle.specs.Angles.{parse_unit}
-use Rattle.angle.specs.declared.AngleUnitRead.TheVariants as F
 use Rattle.filter_functions.specs.Values.{is_percent}
 use Rattle.standards.specs.CssValues3.{LengthUnit, em, ex, px, inch, cm, mm, pt, pc, length_unit, AngleUnit, deg, grad, rad, turn, angle_unit}
 use Rattle.standards.specs.Answers.{Ends, Stops, unit_named, angle_named}
@@ -43,7 +43,7 @@ angle_ends turn rest = record { digit = refl; dot = refl; letter = refl }
 -- and is read
 module _ (s : List ℕ) (i : ℕ) where
   pub unit_there : (u : LengthUnit) (rest : List ℕ) → drop i s ≡ length_unit u ++ rest → unit_at s i ≡ unit_named u
-  unfolding unit_at unit_rest unit_named length_unit starts_with
+  unfolding unit_at unit_named length_unit starts_with
   unit_there em rest h = simp h
   unit_there ex rest h = simp h
   unit_there px rest h = simp h
@@ -53,7 +53,7 @@ module _ (s : List ℕ) (i : ℕ) where
   unit_there pt rest h = simp h
   unit_there pc rest h = simp h
 
-  pub angle_there : (u : AngleUnit) (rest : List ℕ) → drop i s ≡ angle_unit u ++ rest → parse_unit s i ≡ F.Found (angle_named u) (place (i + length (angle_unit u)))
+  pub angle_there : (u : AngleUnit) (rest : List ℕ) → drop i s ≡ angle_unit u ++ rest → parse_unit s i ≡ Some (record { value = angle_named u; next = place (i + length (angle_unit u)) })
   unfolding parse_unit angle_named angle_unit starts_with
   angle_there deg rest h = simp h
   angle_there grad rest h = simp h
@@ -110,7 +110,7 @@ no_letter rest w h e = ne_eqb (get_or rest 0 0) w (λ q. let z : true ≡ false 
 
 module _ (s : List ℕ) (i : ℕ) (rest : List ℕ) (h : Stops rest) (q : drop i s ≡ rest) where
   pub no_unit : unit_at s i ≡ U.None
-  unfolding unit_at unit_rest within
+  unfolding unit_at within
   no_unit =
       let a : eqb (get_or rest 0 0) 37 ≡ false = h.mark in
       let b : eqb (get_or rest 0 0) 99 ≡ false = no_letter rest 99 h refl in
@@ -120,7 +120,7 @@ module _ (s : List ℕ) (i : ℕ) (rest : List ℕ) (h : Stops rest) (q : drop i
       let f : eqb (get_or rest 0 0) 112 ≡ false = no_letter rest 112 h refl in
       simp (q, no_word)
 
-  pub no_angle_unit : parse_unit s i ≡ F.Missing
+  pub no_angle_unit : parse_unit s i ≡ None
   unfolding parse_unit within
   no_angle_unit =
       let a : eqb (get_or rest 0 0) 100 ≡ false = no_letter rest 100 h refl in

@@ -7,17 +7,18 @@ use native.Mathlib.Numerals.{sub-one}
 use native.Mathlib.Omega.{arith}
 use lib.Dec.{lit≤}
 use lib.ListN.{length, length-append}
+use Rattle.std.specs.Prelude.{Result, Ok, Err}
 use Rattle.text_bytes.specs.Bytes.{within}
 use Rattle.utf8.specs.Characters.{Range, Row, table, keeps, row_of, len_at, char_len, walk, utf8_of, firsts, count, characters, calc_char_pos_at}
 use Rattle.utf8.specs.Moves.{move_utf8}
 use Rattle.text_bytes.specs.declared.Place.{Place}
-use Rattle.utf8.specs.declared.Utf8.{Utf8}
-use Rattle.utf8.specs.declared.Utf8.TheVariants.{WellFormed, IllFormed}
 use Rattle.text_bytes.proofs.Ranges.{within_yes, within_ge, within_le, either, and_first, and_second}
 use Rattle.utf8.proofs.Octets.{row_0, row_1, row_3, row_5, row_7, char_ascii}
 use Rattle.utf8.proofs.Walks.{walk_start, walk_end, walk_bad, walk_go, utf8_join}
 use Rattle.utf8.proofs.Counting.{position_shift}
 use Rattle.standards.specs.Rfc3629.{Octet, Char, utf8_1, utf8_2, utf8_3_e0, utf8_3_e1, utf8_3_ed, utf8_3_ee, utf8_4_f0, utf8_4_f1, utf8_4_f4, octets, text}
+use Rattle.standards.specs.Texts.{Longest}
+use Rattle.text_bytes.specs.Moves.{place}
 
 in_range : {lo hi : ℕ} (a : Octet lo hi) → within lo hi a.is ≡ true
 in_range {lo} {hi} a = sym (within_yes lo hi a.is a.from (omega (arith, a.to)))
@@ -143,12 +144,12 @@ parsed (suc n) (x ∷ xs) h = go (char_len (x ∷ xs)) refl (λ r. parsed n r)
         record { chars = f.char ∷ p.chars; rest = p.rest; same = rw (append_assoc, p.same) f.same; stop = p.stop }
 
 -- THEOREM. Every text of RFC 3629's grammar passes the UTF-8 test.
-pub utf8_accepts : (cs : List Char) → utf8_of (text cs) ≡ WellFormed
+pub utf8_accepts : (cs : List Char) → utf8_of (text cs) ≡ Ok tt
 unfolding text utf8_of walk
 utf8_accepts [] = refl
 utf8_accepts (c ∷ cs) = utf8_join (octets c) (text cs) one ∙ ap (move_utf8 (length (octets c))) (utf8_accepts cs)
   where
-    one : utf8_of (octets c) ≡ WellFormed
+    one : utf8_of (octets c) ≡ Ok tt
     one =
         let e : length (octets c) ≡ char_len (octets c) = sym (rw append-nil at (char_length c [])) in
         sym (walk_end (walk_go (walk_start (octets c)) (octets_some c) e (λ z. omega (arith, octets_some c))) (omega arith))
@@ -157,7 +158,7 @@ utf8_accepts (c ∷ cs) = utf8_join (octets c) (text cs) one ∙ ap (move_utf8 (
 accepted : (cs : List Char) (rest : List ℕ) → utf8_of (text cs ++ rest) ≡ move_utf8 (length (text cs)) (utf8_of rest)
 accepted cs rest = utf8_join (text cs) rest (utf8_accepts cs)
 
-stuck : (cs : List Char) (x : ℕ) (xs : List ℕ) → char_len (x ∷ xs) ≡ 0 → utf8_of (text cs ++ (x ∷ xs)) ≡ IllFormed (record { 0 = length (text cs) + 0 })
+stuck : (cs : List Char) (x : ℕ) (xs : List ℕ) → char_len (x ∷ xs) ≡ 0 → utf8_of (text cs ++ (x ∷ xs)) ≡ Err (place (length (text cs) + 0))
 stuck cs x xs z = accepted cs (x ∷ xs) ∙ ap (move_utf8 (length (text cs))) (sym (walk_bad (walk_start (x ∷ xs)) (omega arith) (sym z) refl))
 
 -- s is a text of the grammar
@@ -166,28 +167,20 @@ pub record Written (s : List ℕ) : Type 0 where
   pub same : text chars ≡ s
 
 -- THEOREM. A text that passes the UTF-8 test is a text of the grammar: it can be written as a list of its characters.
-pub utf8_only : (s : List ℕ) → utf8_of s ≡ WellFormed → Written s
+pub utf8_only : (s : List ℕ) → utf8_of s ≡ Ok tt → Written s
 utf8_only s u = let p = parsed (suc (length s)) s (omega arith) in go p.chars p.rest p.same p.stop
   where
     go : (cs : List Char) (r : List ℕ) → text cs ++ r ≡ s → char_len r ≡ 0 → Written s
     go cs [] e z = record { chars = cs; same = rw append-nil at e }
     go cs (x ∷ xs) e z = let w : ◌≡◌ {A = ℕ} 0 1 = cc (stuck cs x xs z) in absurd (omega arith)
 
--- a beginning of n octets that is a text of the grammar, and none that is longer
-pub record Longest (s : List ℕ) (n : ℕ) : Type 0 where
-  pub chars : List Char
-  pub rest : List ℕ
-  pub split : s ≡ text chars ++ rest
-  pub size : length (text chars) ≡ n
-  pub most : (cs : List Char) (r : List ℕ) → text cs ++ r ≡ s → length (text cs) ≤ n
-
 -- THEOREM. The place that the UTF-8 test gives is the length of the longest beginning that is a text of the grammar.
-pub utf8_place : (s : List ℕ) (p : Place) → utf8_of s ≡ IllFormed p → Longest s p.0
+pub utf8_place : (s : List ℕ) (p : Place) → utf8_of s ≡ Err p → Longest s p.0
 utf8_place s p u = let q = parsed (suc (length s)) s (omega arith) in go q.chars q.rest q.same q.stop
   where
-    after : (n : ℕ) (v : Utf8) → move_utf8 n v ≡ IllFormed p → n ≤ p.0
-    after n WellFormed e = let z : ◌≡◌ {A = ℕ} 0 1 = cc in absurd (omega arith)
-    after n (IllFormed q) e = let z : n + q.0 ≡ p.0 = cc in omega arith
+    after : (n : ℕ) (v : Result (Unit {0}) Place) → move_utf8 n v ≡ Err p → n ≤ p.0
+    after n (Ok tt) e = let z : ◌≡◌ {A = ℕ} 0 1 = cc in absurd (omega arith)
+    after n (Err q) e = let z : n + q.0 ≡ p.0 = cc in omega arith
 
     most : (cs : List Char) (r : List ℕ) → text cs ++ r ≡ s → length (text cs) ≤ p.0
     most cs r e = after (length (text cs)) (utf8_of r) (sym (accepted cs r) ∙ ap utf8_of e ∙ u)

@@ -18,7 +18,7 @@ use Rattle.text_bytes.proofs.Ranges.{either}
 use Rattle.floats.specs.Floats.{narrowed, channel_of, clamped, d1}
 use Rattle.floats.proofs.Bounds.{Within, wider, round_within}
 use Rattle.color.specs.Hsl.{s05, s1, s2, s4, s255, raised, lessened, sector, hue_to_rgb, upper, under, lit, hsl_color}
-use Rattle.color.specs.Color.{rgba}
+use Rattle.color.specs.Hex.{rgba}
 use Rattle.standards.specs.Ieee754.{Fraction, parameters, Finite, Delivered, RoundsTo, units, distance}
 use Rattle.standards.proofs.Rounding.{round_rounds}
 use Rattle.standards.proofs.Operands.{mul_values, add_values, sub_values, taken}

@@ -1,4 +1,4 @@
--- The theorems of the readers against the public documents, with nothing left open but what document 01 itself asks of a text: `Documents` states them.
+-- The theorems of the readers against the public documents, with nothing left open but what the readers ask of a text: `Documents` states them.
 use mathlib.Core.Path.{refl}
 use Rattle.standards.specs.Ieee754.{double}
 use Rattle.standards.specs.CssValues3.{exactly, grad, rad, turn}
@@ -8,7 +8,8 @@ use Rattle.standards.proofs.Numbers.{numbers_read}
 use Rattle.standards.proofs.Doubles.{under_pos, exactly_rounds, exactly_hundredth}
 use Rattle.standards.proofs.Once.{turns_round, radians_round, gradians_round, share_rounds}
 use Rattle.standards.proofs.Measures.{length_read, length_whole, angle_read, angle_whole, degrees_are}
-use Rattle.standards.proofs.Palette.{colour_whole, paint_colours, shadow_colours}
+use Rattle.standards.proofs.Functional.{functional_read}
+use Rattle.standards.proofs.Palette.{colour_read, colour_whole, paint_colours, shadow_colours}
 use Rattle.standards.proofs.Meanings.{channels, means}
 use Rattle.standards.proofs.Paints.{paint_read, link_bytes_of}
 use Rattle.standards.proofs.FilterLists.{list_step, list_read}
@@ -33,6 +34,8 @@ documents =
       steps = λ w t d. refl;
       steps_with_alpha = λ w t a d. (refl, (refl, refl));
       colours = colour_whole;
+      colour_front = colour_read;
+      function_front = λ t d rest. functional_read numbers_read t d rest;
       paints = paint_read paint_colours;
       links = link_bytes_of paint_colours;
       filters = list_read numbers_read shadow_colours;

@@ -1,11 +1,15 @@
 -- What the readers' answers are for each tree: the one file of specs/ that names both sides, with Documents, which states the theorems.
-use Rattle.std.specs.Prelude.{ℕ, ◌+◌, Bool, true, false, ◌||◌, ◌&&◌, not, List, [], ◌∷◌, ◌≡◌, eqb, ℤ, Float, length, get_or}
+use Rattle.std.specs.Prelude.{ℕ, ◌+◌, Bool, true, false, ◌||◌, ◌&&◌, not, List, [], ◌∷◌, ◌≡◌, eqb, ℤ, Float, length, get_or, Result, Ok, Option, Some, None}
 use Rattle.std.specs.Float.{fin, binary64}
 use Rattle.std.specs.Float.Ieee.{div}
 use Rattle.text_bytes.specs.Bytes.{is_digit, is_lower}
 use Rattle.text_bytes.specs.Moves.{place}
+use Rattle.text_bytes.specs.declared.Place.{Place}
+use Rattle.stream.specs.declared.Fault.{Fault}
+use Rattle.stream.specs.declared.Read.{Read}
 use Rattle.numbers.specs.Powers.{hundred}
-use Rattle.numbers.specs.declared.Number as N
+use Rattle.numbers.specs.Moves as N
+use Rattle.numbers.specs.declared.Written.{Written}
 use Rattle.length.specs.declared.Length as L
 use Rattle.length.specs.declared.LengthUnit as LU
 use Rattle.length.specs.declared.LengthUnit.TheVariants as U
@@ -21,10 +25,8 @@ use Rattle.paint.specs.declared.PaintFallback.{PaintFallback}
 use Rattle.paint.specs.declared.PaintFallback.TheVariants as F
 use Rattle.filter_functions.specs.declared.FilterValue.{FilterValue}
 use Rattle.filter_functions.specs.declared.FilterValue.TheVariants as G
-use Rattle.filter_functions.specs.declared.ShadowColor.{ShadowColor}
-use Rattle.filter_functions.specs.declared.ShadowColor.TheVariants as O
-use Rattle.filter_functions.specs.declared.FilterStep.{FilterStep}
-use Rattle.filter_functions.specs.declared.FilterStep.TheVariants as Step
+use Rattle.filter_functions.specs.Filters.{FilterStep}
+use Rattle.filter_functions.specs.Filters.{value_step}
 use Rattle.standards.specs.Ieee754.{Fraction, parameters, RoundsTo, double, exact, quotient}
 use Rattle.standards.specs.CssValues3.{Number, exactly, is_absent, is_integer, LengthUnit, em, ex, px, inch, cm, mm, pt, pc, AngleUnit, deg, grad, rad, turn}
 use Rattle.standards.specs.CssColor3.{Hsl}
@@ -52,6 +54,10 @@ pub record Stops (rest : List ℕ) : Type 0 where
   pub letter : is_lower (get_or rest 0 0) ≡ false
   pub mark : eqb (get_or rest 0 0) 37 ≡ false
 
+-- a value that was read, and the place where reading goes on
+abbrev pub read_on : {A : Type 0} → A → Place → Result (Read A) Fault
+read_on a p = Ok (record { value = a; next = p })
+
 -- the number as it was written, of which the reader tells whether it is an integer and where its own text ended
 abbrev pub number_of : Number → ℕ → N.Number
 number_of n end = record { value = double (exactly n); whole = is_integer n; end = place end }
@@ -60,7 +66,7 @@ number_of n end = record { value = double (exactly n); whole = is_integer n; end
 abbrev pub portion : Number → Float
 portion t = div binary64 (double (exactly t)) hundred
 
--- which is a hundredth of q as document 01 has it: q rounded to a double, and that, divided by 100, rounded again
+-- which is a hundredth of q as the readers have it: q rounded to a double, and that, divided by 100, rounded again
 pub record Hundredth (q : Fraction) (v : Float) : Type 0 where
   pub s : Bool
   pub m : ℕ
@@ -94,6 +100,10 @@ unit_of S.percent = U.Percent
 abbrev pub length_of : S.Length → L.Length
 length_of t = record { number = double (exactly t.number_part); unit = unit_of t.unit_part }
 
+-- with how its number was written, as above
+abbrev pub length_written : S.Length → ℕ → Written L.Length
+length_written t end = record { value = length_of t; whole = is_integer t.number_part; end = place end }
+
 unfoldable pub angle_unit_of : S.AngleUnit → AU.AngleUnit
 angle_unit_of S.unmarked = W.Degrees
 angle_unit_of (S.marked u) = angle_named u
@@ -101,20 +111,23 @@ angle_unit_of (S.marked u) = angle_named u
 abbrev pub angle_of : S.Angle → A.Angle
 angle_of t = record { number = double (exactly t.number_part); unit = angle_unit_of t.unit_part }
 
+abbrev pub angle_written : S.Angle → ℕ → Written A.Angle
+angle_written t end = record { value = angle_of t; whole = is_integer t.number_part; end = place end }
+
 -- a colour's four channels
 abbrev pub color_of : Channels → Color
 color_of c = record { red = c.red; green = c.green; blue = c.blue; alpha = c.alpha }
 
--- Document 01's steps for hsl(), of the document's three numbers. They are more than what the document fixes: its nearest channel is not always theirs, `hsl(0,30.9%,36.1%)` has red 120.499995 and is read as 121
+-- The readers' steps for hsl(), of the document's three numbers. They are more than what the document fixes: its nearest channel is not always theirs, `hsl(0,30.9%,36.1%)` has red 120.499995 and is read as 121
 abbrev pub hsl_of : Hsl → Color
 hsl_of t = hsl_color (double (exactly t.hue.value)) (portion t.saturation.value) (portion t.lightness.value)
 
 -- the paints; a link is the place and the length of its name in the text, which starts at `at`
-unfoldable pub fallback_of : {Colour : Type 0} → (Colour → Color) → S.Fallback Colour → PaintFallback
-fallback_of channels S.absent = F.Absent
-fallback_of channels (S.no_paint l) = F.None
-fallback_of channels (S.current l) = F.CurrentColor
-fallback_of channels (S.coloured l c) = F.Color (channels c)
+unfoldable pub fallback_of : {Colour : Type 0} → (Colour → Color) → S.Fallback Colour → Option PaintFallback
+fallback_of channels S.absent = None
+fallback_of channels (S.no_paint l) = Some F.None
+fallback_of channels (S.current l) = Some F.CurrentColor
+fallback_of channels (S.coloured l c) = Some (F.Color (channels c))
 
 unfoldable pub paint_of : {Colour : Type 0} → (Colour → Color) → ℕ → S.Paint Colour → Paint
 paint_of channels at S.none = P.None
@@ -146,9 +159,9 @@ simple_value opacity x = G.Opacity x
 simple_value saturate x = G.Saturate x
 simple_value sepia x = G.Sepia x
 
-unfoldable pub shadow_color : {Colour : Type 0} → (Colour → Color) → E.Tint Colour → ShadowColor
-shadow_color channels E.current = O.None
-shadow_color channels (E.tint c) = O.Some (channels c)
+unfoldable pub shadow_color : {Colour : Type 0} → (Colour → Color) → E.Tint Colour → Option Color
+shadow_color channels E.current = None
+shadow_color channels (E.tint c) = Some (channels c)
 
 -- where a link's identifier stands: after `url(`, white space and `#`
 abbrev pub link_place : {Colour : Type 0} → E.FilterFunction Colour → ℕ
@@ -168,4 +181,4 @@ module _ {Colour : Type 0} (channels : Colour → Color) where
   handed colour n [] = []
   handed colour n (t ∷ ts) =
       let e = n + length (E.item_text colour t) in
-      Step.Value (value (n + link_place t.function) (E.meaning t.function)) (place e) ∷ handed colour e ts
+      value_step (value (n + link_place t.function) (E.meaning t.function)) (place e) ∷ handed colour e ts

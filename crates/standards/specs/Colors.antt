@@ -1,4 +1,4 @@
--- <color>: CSS Color Module Level 3, section 4, with the hex notations of CSS Color Module Level 4. The numbers keep to document 01's domain. From memory of CSS Color 3, Recommendation of June 2018, and CSS Color 4, Candidate Recommendation of July 2022; it knows nothing of the readers.
+-- <color>: CSS Color Module Level 3, section 4, with the hex notations of CSS Color Module Level 4. The numbers keep to the domain of specs/Domain. From memory of CSS Color 3, Recommendation of June 2018, and CSS Color 4, Candidate Recommendation of July 2022; it knows nothing of the readers.
 use Rattle.std.specs.Prelude.{ℕ, ◌<◌, List, length, get_or}
 use Rattle.standards.specs.Written.{ascii}
 use Rattle.standards.specs.CssColor4.{HexColor, hex_text}

@@ -138,7 +138,7 @@ pub data LengthUnit : Type 0 where
   pt : LengthUnit
   pc : LengthUnit
 
--- CSS ignores the letter case of units; the trees have that of the document alone, since document 01 takes no other
+-- CSS ignores the letter case of units; the trees have that of the document alone, since svgtypes takes no other
 unfoldable pub length_unit : LengthUnit → List ℕ
 length_unit em = ascii "em"
 length_unit ex = ascii "ex"

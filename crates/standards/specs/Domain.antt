@@ -1,4 +1,4 @@
--- What document 01 takes of each grammar, which no public document has: its domain of numbers, and how a link ends. The theorems speak of this part alone.
+-- What the readers take of each grammar, which no public document has: its domain of numbers, and how a link ends. The theorems speak of this part alone.
 use Rattle.std.specs.Prelude.{ℕ, ◌+◌, ◌≤◌, ◌<◌, Bool, true, false, ◌&&◌, ◌||◌, not, List, [], ◌∷◌, ◌≡◌, eqb}
 use Rattle.standards.specs.Rfc3629.{Char, scalar}
 use Rattle.standards.specs.Unicode.{ends_white}

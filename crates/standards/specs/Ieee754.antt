@@ -67,6 +67,12 @@ RoundsTo f q nan = ⊥
 RoundsTo f q (inf s) = (s ≡ q.minus) × Overflows f q
 RoundsTo f q (fin s m e) = Delivered f q s m e
 
+-- v is finite, and exactly q
+abbrev pub Exactly : Float → Fraction → Type 0
+Exactly nan q = ⊥
+Exactly (inf s) q = ⊥
+Exactly (fin s m e) q = (s ≡ q.minus) × (m * up e * q.under ≡ q.over * down e)
+
 -- the double and the single that are so; `double_rounds` and `single_rounds` prove it
 unfoldable pub double : Fraction → Float
 double q = round binary64 q.minus q.over q.under

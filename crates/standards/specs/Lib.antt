@@ -19,3 +19,7 @@ pub mod Answers
 pub mod LengthSteps
 pub mod Documents
 pub mod Readers
+pub mod Texts
+pub mod Arithmetic
+pub mod Notations
+pub mod Worked

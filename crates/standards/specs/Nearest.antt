@@ -1,4 +1,4 @@
--- Which channel a part of the whole is. CSS Color 3, section 4.2.1: "The integer value 255 corresponds to 100%"; how to round, it does not say, and document 01 does. It knows nothing of the readers.
+-- Which channel a part of the whole is. CSS Color 3, section 4.2.1: "The integer value 255 corresponds to 100%"; how to round, it does not say; of two as near the readers take the greater. It knows nothing of the readers.
 use Rattle.std.specs.Prelude.{ℕ, ◌+◌, ◌*◌, ◌^◌, ◌≤◌, ◌<◌, Bool, true, false, ◌⊎◌, ◌≡◌}
 use Rattle.standards.specs.Ieee754.{Fraction, dist}
 use Rattle.standards.specs.CssValues3.{Number, fraction_digits, power, falls}
@@ -8,7 +8,7 @@ pub record Nearest (c a b : ℕ) : Type 0 where
   pub channel : c ≤ 255
   pub nearer : (j : ℕ) → j ≤ 255 → dist (c * b) (255 * a) ≤ dist (j * b) (255 * a)
 
--- document 01, "c - 1/2 <= p < c + 1/2": of two as near the greater
+-- c - 1/2 <= p < c + 1/2: of two as near the greater
 pub record NearestUp (c a b : ℕ) : Type 0 where
   pub nearest : Nearest c a b
   pub greater : (j : ℕ) → j ≤ 255 → dist (j * b) (255 * a) ≡ dist (c * b) (255 * a) → j ≤ c
@@ -31,7 +31,7 @@ pub record Share (g : ℕ) (q : Fraction) (c : ℕ) : Type 0 where
   -- and the nearest, but for what is finer than 1 / g and no more than 1 / g away from a half
   pub nearest : q.minus ≡ false → Grained g q ⊎ OffHalf g q → Nearest c q.over q.under
 
--- how fine a part may be: in doubles, and in singles, which document 01 has for hsl()
+-- how fine a part may be: in doubles, and in singles, in which hsl() is read
 abbrev pub fine : ℕ
 fine = 10 ^ 14
 

@@ -1,5 +1,5 @@
 -- SVG 2: lengths, angles and paints as they are written, with the units of CSS Values and Units Module Level 3. From memory of SVG 2, Candidate Recommendation of October 2018, and CSS Values 3, Candidate Recommendation of September 2016; it knows nothing of the readers.
--- CSS ignores the letter case of keywords; the trees have that of the documents alone, since document 01 takes no other.
+-- CSS ignores the letter case of keywords; the trees have that of the documents alone, since svgtypes takes no other.
 use Rattle.std.specs.Prelude.{ℕ, ◌*◌, ◌^◌, Bool, false, List, [], ◌∷◌, ◌++◌, Float}
 use Rattle.std.specs.Float.{binary64}
 use Rattle.std.specs.Float.Ieee.{mul, div}

@@ -1,5 +1,5 @@
 -- The Unicode Character Database, PropList.txt: the property White_Space, 25 code points, line by line. From memory of Unicode 15.0, 2022; it knows nothing of the readers.
-use Rattle.std.specs.Prelude.{ℕ, Bool, false, ◌&&◌, ◌||◌, List, [], ◌∷◌, leb, eqb}
+use Rattle.std.specs.Prelude.{ℕ, Bool, true, false, ◌&&◌, ◌||◌, List, [], ◌∷◌, leb, eqb}
 use Rattle.standards.specs.Rfc3629.{Char, scalar}
 
 abbrev between : ℕ → ℕ → ℕ → Bool
@@ -22,6 +22,15 @@ is_white n =
 -- a character that is so
 abbrev pub white : Char → Bool
 white c = is_white (scalar c)
+
+-- whether a text has no others, and whether it begins with one
+unfoldable pub all_white : List Char → Bool
+all_white [] = true
+all_white (c ∷ cs) = white c && all_white cs
+
+unfoldable pub begins_white : List Char → Bool
+begins_white [] = false
+begins_white (c ∷ cs) = white c
 
 -- whether a text ends with one
 unfoldable pub ends_white : List Char → Bool

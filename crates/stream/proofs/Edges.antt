@@ -1,203 +1,157 @@
--- The edge: what an admitted text is, and the laws of its three refusals.
-use Prim.Native.Nat.{ℕ, ◌+◌, ◌-◌, ◌≤◌, ◌<◌}
+-- The edge: what an admitted text is, where a refusal's stretch lies, and shift.
+use Prim.Native.Nat.{ℕ, zero, suc, ◌+◌, ◌-◌, ◌≤◌, ◌<◌}
 use mathlib.Core.Bool.{Bool, true, false, cond, not, ◌||◌}
-use mathlib.Core.List.{List, ◌++◌}
+use mathlib.Core.List.{List, [], ◌∷◌, ◌++◌}
+use mathlib.Core.Logic.{⊎_elim}
 use mathlib.Core.Path.{◌≡◌, refl, sym, ◌∙◌}
 use native.Mathlib.Omega.{arith}
-use borrow.Author.Tests.{leb-true, lt-leb, le-leb, ne_eqb}
+use borrow.Author.Tests.{leb-true, le-leb, eqb-true}
 use lib.Dec.{leb, eqb}
 use lib.ListN.{length, get_or, get_or-eq_default}
+use Rattle.std.specs.Prelude.{Result, Ok, Err, MatchResult}
 use Rattle.text_bytes.specs.Bytes.{is_tail}
-use Rattle.utf8.specs.Characters.{utf8_of, on_character, firsts, heads, characters, calc_char_pos_at}
-use Rattle.stream.specs.Moves.{move_fault, move_refusal}
-use Rattle.stream.specs.Refusals.{number_of, stretch_refusal, bare_refusal, ill_formed, refusal_of, outside, is_outside_domain, admit_utf8, admit_text, admit_place, then_admitted}
-use Rattle.text_bytes.specs.Moves.{move_place}
 use Rattle.text_bytes.specs.declared.Place.{Place}
+use Rattle.text_bytes.proofs.Ranges.{either, le_or_lt}
+use Rattle.utf8.specs.Characters.{char_len, walk, utf8_of, on_character, firsts, heads, characters}
+use Rattle.utf8.proofs.Counting.{firsts_are, heads_length, on_byte, position_shift}
+use Rattle.stream.specs.Moves.{move_fault, move_refusal}
+use Rattle.stream.specs.Refusals.{Inside, is_outside_domain, number_of, reason_number, empty_refusal, bare_refusal, refusal_of, at_edge, admit_utf8, admit_text, admit_place}
 use Rattle.stream.specs.declared.Trouble.{Trouble}
 use Rattle.stream.specs.declared.Trouble.TheVariants as T
+use Rattle.stream.specs.declared.Reason.{Reason}
+use Rattle.stream.specs.declared.Reason.TheVariants as R
 use Rattle.stream.specs.declared.Fault.{Fault}
 use Rattle.stream.specs.declared.Refusal.{Refusal}
-use Rattle.utf8.specs.declared.Utf8.{Utf8}
-use Rattle.utf8.specs.declared.Utf8.TheVariants.{WellFormed, IllFormed}
-use Rattle.stream.specs.declared.Admission.{Admission}
-use Rattle.stream.specs.declared.Admission.TheVariants as A
-use Rattle.text_bytes.proofs.Ranges.{either}
-use Rattle.text_bytes.proofs.Shifts.{sub_shift}
-use Rattle.utf8.proofs.Counting.{firsts_are, heads_length, on_byte, position_shift}
+use Rattle.text_bytes.specs.Flow.{◌>>=◌}
+use Rattle.stream.proofs.Binds.{bind_holds, at_ok, bind_ok}
+use Rattle.stream.proofs.Stretches.{Lies}
+use Rattle.text_bytes.specs.Moves.{place}
 
-module _ (s : List ℕ) where
-  pub admit_long : {e : Refusal} → 4096 < length s → e ≡ bare_refusal 1 → A.Refused e ≡ admit_text s
-  unfolding admit_text
-  admit_long h q = simp (lt-leb (length s) 4096 h, q)
+-- whether a UTF-8 text has a character's first byte at a place inside, or at its end
+pub on_first : (s : List ℕ) (i : ℕ) → utf8_of s ≡ Ok tt → i < length s → on_character s i ≡ not (is_tail (get_or s i 0))
+on_first s i u h = on_byte s i u h
 
-  module _ (h : length s ≤ 4096) {u : Utf8} (q : u ≡ utf8_of s) where
-    pub admit_good : u ≡ WellFormed → A.Admitted ≡ admit_text s
-    unfolding admit_text admit_utf8
-    admit_good e = simp (le-leb (length s) 4096 h, ← q, e)
+pub on_last : (s : List ℕ) (i : ℕ) → utf8_of s ≡ Ok tt → length s ≤ i → on_character s i ≡ eqb i (length s)
+unfolding on_character
+on_last s i u h =
+    let f : get_or (firsts 0 s) i false ≡ false = rw (firsts_are s u) (get_or-eq_default (heads s) false (omega (arith, heads_length s))) in
+    rw f (choice (eqb i (length s)))
+  where
+    choice : (t : Bool) → cond t true false ≡ t
+    choice true = refl
+    choice false = refl
 
-    pub admit_bad : (p : Place) {e : Refusal} → u ≡ IllFormed p → e ≡ ill_formed p → A.Refused e ≡ admit_text s
-    unfolding admit_text admit_utf8
-    admit_bad p f g = simp (le-leb (length s) 4096 h, ← q, f, g)
+-- the refusals that the edge makes lie inside
+ill_inside : (i k : ℕ) (s : List ℕ) (p : Place) → walk i k s ≡ Err p → p.0 ≤ i + length s
+unfolding walk
+ill_inside i k [] p e = let z : ◌≡◌ {A = ℕ} 0 1 = cc in absurd (omega arith)
+ill_inside i (suc k) (x ∷ xs) p e = omega (arith, ill_inside (i + 1) k xs p e)
+ill_inside i zero (x ∷ xs) p e = go (eqb (char_len (x ∷ xs)) 0) (char_len (x ∷ xs) - 1) e (λ k. ill_inside (i + 1) k xs p)
+  where
+    go : (t : Bool) (k : ℕ) → cond t (Err (place i)) (walk (i + 1) k xs) ≡ Err p
+        → ((k : ℕ) → walk (i + 1) k xs ≡ Err p → p.0 ≤ i + 1 + length xs) → p.0 ≤ i + suc (length xs)
+    go true k e ih = let z : ◌≡◌ {A = Place} (record { 0 = i }) p = cc in rw (← z) (omega arith)
+    go false k e ih = omega (arith, ih k e)
 
-pub ruleset admits = (admit_long, admit_good, admit_bad)
+pub bare_inside : (n : ℕ) (r : Reason) → Inside n (bare_refusal r)
+bare_inside n r = record { ordered = omega arith; ends = omega arith }
 
 -- what an admitted text is
-text_from : (s : List ℕ) (t : Bool) (u : Utf8) → cond t (admit_utf8 u) (A.Refused (bare_refusal 1)) ≡ A.Admitted → (t ≡ true) × (u ≡ WellFormed)
-unfolding admit_utf8
-text_from s true WellFormed e = (refl, refl)
-text_from s true (IllFormed p) e = let z : ◌≡◌ {A = ℕ} 0 1 = cc in absurd (omega arith)
-text_from s false u e = let z : ◌≡◌ {A = ℕ} 0 1 = cc in absurd (omega arith)
+pub record Admitted (s : List ℕ) : Type 0 where
+  pub small : length s ≤ 4096
+  pub utf8 : utf8_of s ≡ Ok tt
 
-module _ (s : List ℕ) {r : Admission} (q : r ≡ admit_text s) (e : r ≡ A.Admitted) where
-  pub admitted_small : length s ≤ 4096
-  unfolding admit_text
-  admitted_small = leb-true (length s) 4096 (text_from s (leb (length s) 4096) (utf8_of s) (sym q ∙ e)).0
+-- and that i is a place of it
+pub record Placed (s : List ℕ) (i : ℕ) : Type 0 where
+  pub text : Admitted s
+  pub inside : i ≤ length s
 
-  pub admitted_utf8 : utf8_of s ≡ WellFormed
-  unfolding admit_text
-  admitted_utf8 = (text_from s (leb (length s) 4096) (utf8_of s) (sym q ∙ e)).1
+pub admit_holds : (s : List ℕ) → MatchResult (admit_text s) (λ _. Admitted s) (Inside (length s))
+unfolding admit_text admit_utf8 utf8_of
+admit_holds s =
+    either (leb (length s) 4096) (λ t. simp t (go (walk 0 0 s) refl (leb-true (length s) 4096 t))) (λ t. simp t (bare_inside (length s) R.TextTooLong))
+  where
+    go : (u : Result (Unit {0}) Place) → walk 0 0 s ≡ u → length s ≤ 4096 → MatchResult (admit_utf8 u) (λ _. Admitted s) (Inside (length s))
+    go (Ok tt) w l = record { small = l; utf8 = w }
+    go (Err p) w l = record { ordered = omega arith; ends = omega (arith, ill_inside 0 0 s p w) }
 
-pub ruleset admitted = (admitted_small, admitted_utf8)
+place_inside : (s : List ℕ) (i : ℕ) → utf8_of s ≡ Ok tt → on_character s i ≡ true → i ≤ length s
+place_inside s i u q =
+    ⊎_elim (λ (l : length s ≤ i). omega (arith, eqb-true i (length s) (sym (on_last s i u l) ∙ q)))
+    (λ (l : i < length s). omega arith)
+    (le_or_lt (length s) i)
 
--- a text that has an admitted place is admitted
-text_of : (x : Admission) (t : Bool) → then_admitted A.Refused x (cond t A.Admitted (A.Refused (bare_refusal 3))) ≡ A.Admitted → x ≡ A.Admitted
-text_of A.Admitted t e = refl
-text_of (A.Refused f) t e = e
+pub place_holds : (s : List ℕ) (i : ℕ) → MatchResult (admit_place s i) (λ _. Placed s i) (Inside (length s))
+unfolding admit_place
+place_holds s i =
+    bind_holds (λ _. Admitted s) (λ _. Placed s i) (Inside (length s)) (admit_text s) _ (admit_holds s)
+    (λ _ a. either (on_character s i)
+    (λ t. let p : Placed s i = record { text = a; inside = place_inside s i a.utf8 t } in simp t p)
+    (λ t. simp t (bare_inside (length s) R.BadListPlace)))
 
-module _ (s : List ℕ) (i : ℕ) {r : Admission} (q : r ≡ admit_place s i) (e : r ≡ A.Admitted) where
-  place_admits : admit_text s ≡ A.Admitted
-  unfolding admit_place
-  place_admits = text_of (admit_text s) (on_character s i) (sym q ∙ e)
+-- the same for `grind`
+pub admitted_small : (s : List ℕ) → admit_text s ≡ Ok tt → length s ≤ 4096
+admitted_small s e = (at_ok (λ _. Admitted s) (Inside (length s)) (admit_text s) tt (admit_holds s) e).small
 
-  pub place_small : length s ≤ 4096
-  place_small = admitted_small s refl place_admits
+pub admitted_utf8 : (s : List ℕ) → admit_text s ≡ Ok tt → utf8_of s ≡ Ok tt
+admitted_utf8 s e = (at_ok (λ _. Admitted s) (Inside (length s)) (admit_text s) tt (admit_holds s) e).utf8
 
-  pub place_utf8 : utf8_of s ≡ WellFormed
-  place_utf8 = admitted_utf8 s refl place_admits
+pub placed_small : (s : List ℕ) (i : ℕ) → admit_place s i ≡ Ok tt → (admit_place s i ≡ Ok tt) × (length s ≤ 4096)
+placed_small s i e = (e, (at_ok (λ _. Placed s i) (Inside (length s)) (admit_place s i) tt (place_holds s i) e).text.small)
 
-pub ruleset placed = (place_small, place_utf8)
+pub placed_utf8 : (s : List ℕ) (i : ℕ) → admit_place s i ≡ Ok tt → (admit_place s i ≡ Ok tt) × (utf8_of s ≡ Ok tt)
+placed_utf8 s i e = (e, (at_ok (λ _. Placed s i) (Inside (length s)) (admit_place s i) tt (place_holds s i) e).text.utf8)
 
--- going on with an admitted text
-module _ {B : Type 0} (x : B) (out : Refusal → B) (t r : Admission) (k : B) (q : r ≡ t) where
-  pub admitted_on : r ≡ A.Admitted → x ≡ k → x ≡ then_admitted out t k
-  admitted_on e h = rw (← q, e) h
+-- a fault's refusal lies where the fault does
+pub refusal_inside : (s : List ℕ) {n : ℕ} {f : Fault} → Lies n f → Inside n (refusal_of s f)
+unfolding refusal_of
+refusal_inside s h = record { ordered = h.ordered; ends = h.inside }
 
-  pub admitted_out : (e : Refusal) → r ≡ A.Refused e → x ≡ out e → x ≡ then_admitted out t k
-  admitted_out e f h = rw (← q, f) h
+-- so at the edge, what holds of what was read holds still
+pub edge_holds : {A : Type 0} (P : A → Type 0) (s : List ℕ) (r : Result A Fault) → MatchResult r P (Lies (length s)) → MatchResult (at_edge s r) P (Inside (length s))
+edge_holds P s (Ok a) v = v
+edge_holds P s (Err e) v = refusal_inside s v
 
-pub admission_refused : {e f : Refusal} → e ≡ f → A.Refused e ≡ A.Refused f
-admission_refused h = rw h
-
-pub ruleset edges = (admitted_on, admitted_out, admission_refused)
-
--- a place that may be read from is in the text
-module _ (s : List ℕ) (i : ℕ) (u : utf8_of s ≡ WellFormed) where
-  pub on_first : {r : Bool} → r ≡ is_tail (get_or s i 0) → i < length s → not r ≡ on_character s i
-  on_first q h = rw q (sym (on_byte s i u h))
-
-  pub on_last : length s ≤ i → eqb i (length s) ≡ on_character s i
-  unfolding on_character
-  on_last h =
-      let f : get_or (firsts 0 s) i false ≡ false = rw (firsts_are s u) (get_or-eq_default (heads s) false (omega (arith, heads_length s))) in
-      rw f (choice (eqb i (length s)))
-    where
-      choice : (t : Bool) → t ≡ cond t true false
-      choice true = refl
-      choice false = refl
-
-pub ruleset places = (on_first, on_last)
-
--- the columns of a refusal: r is the one with nothing but its stretch, p the position
-module _ (s : List ℕ) (f : Fault) {n : ℕ} {r : Refusal} (q : n ≡ number_of f.trouble) (b : r ≡ stretch_refusal n f.from.0 f.to.0) where
-  pub refusal_bare : n ≤ 5 → r ≡ refusal_of s f
-  unfolding refusal_of
-  refusal_bare h =
-      let c : eqb n 7 ≡ false = ne_eqb n 7 (λ e. omega arith) in
-      let d : eqb n 8 ≡ false = ne_eqb n 8 (λ e. omega arith) in
-      simp (b, ← q, le-leb n 5 h, c, d)
-
-  module _ (p : ℕ) (w : p ≡ calc_char_pos_at s f.at.0) where
-    pub refusal_char : n ≡ 7 → ◌≡◌ {A = Refusal} (record { number = r.number; position = record { 0 = p }; place = r.place; found = f.found; wanted = f.wanted; part = r.part; from = r.from; to = r.to }) (refusal_of s f)
-    unfolding refusal_of
-    refusal_char e = simp (b, ← q, e, w)
-
-    pub refusal_string : {k : ℕ} → n ≡ 8 → k ≡ f.to.0 - f.from.0
-        → ◌≡◌ {A = Refusal} (record { number = r.number; position = record { 0 = p }; place = r.place; found = r.found; wanted = r.wanted; part = record { start = f.from; len = k }; from = r.from; to = r.to }) (refusal_of s f)
-    unfolding refusal_of
-    refusal_string e g = simp (b, ← q, e, w, g)
-
-    pub refusal_plain : 5 < n → (n ≡ 7 → ⊥) → (n ≡ 8 → ⊥) → ◌≡◌ {A = Refusal} (record { number = r.number; position = record { 0 = p }; place = r.place; found = r.found; wanted = r.wanted; part = r.part; from = r.from; to = r.to }) (refusal_of s f)
-    unfolding refusal_of
-    refusal_plain h x y = simp (b, ← q, lt-leb n 5 h, ne_eqb n 7 x, ne_eqb n 8 y, w)
+-- 4 and 5 tell nothing but an empty stretch
+pub refusal_empty : (s : List ℕ) {n : ℕ} {f : Fault} → Lies n f → number_of f.trouble ≤ 5 → refusal_of s f ≡ empty_refusal (R.Unread f.trouble) f.from.0
+unfolding refusal_of
+refusal_empty s {n} {f} h l =
+    let e : leb (number_of f.trouble) 5 ≡ true = le-leb (number_of f.trouble) 5 l in
+    simp (e, h.empty e)
 
 -- a number outside the domain is exactly 10, 23 or 24
 pub outside_is : (f : Fault) → is_outside_domain f ≡ (let n = number_of f.trouble in eqb n 10 || (eqb n 23 || eqb n 24))
-unfolding is_outside_domain number_of
-outside_is f = go f.trouble
-  where
-    go : (t : Trouble) → outside t ≡ (let n = number_of t in eqb n 10 || (eqb n 23 || eqb n 24))
-    go T.UnexpectedEndOfStream = refl
-    go T.InvalidValue = refl
-    go T.UnexpectedData = refl
-    go T.InvalidChar = refl
-    go T.InvalidString = refl
-    go T.WrongByte = refl
-    go T.TextEnded = refl
-    go T.WrongForm = refl
-    go T.TooLarge = refl
-    go T.ScaleOutOfRange = refl
-    go T.PercentageValue = refl
-    go T.NegativeValue = refl
-    go T.InvalidAngle = refl
-    go T.MissingDropShadowOffset = refl
-    go T.InvalidUrl = refl
+unfolding is_outside_domain
+outside_is f = refl
 
 -- no fault has a number of 1 to 3
 pub past_three : (t : Trouble) → leb (number_of t) 3 ≡ false
 unfolding number_of
 past_three T.UnexpectedEndOfStream = refl
-past_three T.InvalidValue = refl
-past_three T.UnexpectedData = refl
-past_three T.InvalidChar = refl
-past_three T.InvalidString = refl
-past_three T.WrongByte = refl
-past_three T.TextEnded = refl
-past_three T.WrongForm = refl
-past_three T.TooLarge = refl
-past_three T.ScaleOutOfRange = refl
-past_three T.PercentageValue = refl
-past_three T.NegativeValue = refl
-past_three T.InvalidAngle = refl
-past_three T.MissingDropShadowOffset = refl
-past_three T.InvalidUrl = refl
+past_three t = refl
 
--- shift at the edge: the same fault behind a UTF-8 text
-pub refusal_shift : (a b : List ℕ) (f : Fault) → utf8_of a ≡ WellFormed → refusal_of (a ++ b) (move_fault (length a) f) ≡ move_refusal (length a) (characters a) (refusal_of b f)
-unfolding refusal_of
-refusal_shift a b f u = columns (number_of f.trouble) (past_three f.trouble)
-  where
-    columns : (n : ℕ) → leb n 3 ≡ false → ◌≡◌ {A = Refusal}
-        (record {
-          number = n;
-          position = record { 0 = cond (leb n 5) 0 (calc_char_pos_at (a ++ b) (length a + f.at.0)) };
-          place = record { 0 = 0 };
-          found = cond (eqb n 7) f.found 0;
-          wanted = cond (eqb n 7) f.wanted 0;
-          part = record { start = record { 0 = cond (eqb n 8) (length a + f.from.0) 0 }; len = cond (eqb n 8) (length a + f.to.0 - (length a + f.from.0)) 0 };
-          from = move_place (length a) f.from;
-          to = move_place (length a) f.to;
-        })
-        (move_refusal (length a) (characters a) (record {
-          number = n;
-          position = record { 0 = cond (leb n 5) 0 (calc_char_pos_at b f.at.0) };
-          place = record { 0 = 0 };
-          found = cond (eqb n 7) f.found 0;
-          wanted = cond (eqb n 7) f.wanted 0;
-          part = record { start = record { 0 = cond (eqb n 8) f.from.0 0 }; len = cond (eqb n 8) (f.to.0 - f.from.0) 0 };
-          from = f.from;
-          to = f.to;
-        }))
-    columns n g =
-        let p = position_shift a b u f.at.0 in
-        either (leb n 5) (λ h. either (eqb n 8) (λ k. simp (g, h, k, sub_shift)) (λ k. simp (g, h, k)))
-        (λ h. either (eqb n 8) (λ k. simp (g, h, k, p, sub_shift)) (λ k. simp (g, h, k, p)))
+-- shift: the same fault behind a UTF-8 text
+pub refusal_shift : (a b : List ℕ) (f : Fault) → utf8_of a ≡ Ok tt → refusal_of (a ++ b) (move_fault (length a) f) ≡ move_refusal (length a) (characters a) (refusal_of b f)
+unfolding refusal_of reason_number
+refusal_shift a b f u =
+    let p = position_shift a b u f.at.0 in
+    let g : leb (number_of f.trouble) 3 ≡ false = past_three f.trouble in
+    either (leb (number_of f.trouble) 5) (λ e. simp (g, e)) (λ e. simp (g, e, p))
+
+-- what is answered at the edge was read
+pub edge_ok : {A : Type 0} (s : List ℕ) (r : Result A Fault) {a : A} → at_edge s r ≡ Ok a → r ≡ Ok a
+edge_ok s (Ok b) {a} e = let z : b ≡ a = cc in rw z refl
+edge_ok s (Err x) e = let z : ◌≡◌ {A = ℕ} 0 1 = cc in absurd (omega arith)
+
+-- and the text was admitted, so that it is short
+pub edge_read : {A B : Type 0} (s : List ℕ) (r : Result A Fault) (f : A → Result B Refusal) {b : B} → (admit_text s >>= (λ _. at_edge s r >>= f)) ≡ Ok b
+    → (length s ≤ 4096) × ((a : A) × ((r ≡ Ok a) × (f a ≡ Ok b)))
+edge_read s r f e =
+    let v = bind_ok (admit_text s) _ e in
+    let w = bind_ok (at_edge s r) f v.1.1 in
+    ((at_ok (λ _. Admitted s) (Inside (length s)) (admit_text s) v.0 (admit_holds s) v.1.0).small, (w.0, (edge_ok s r w.1.0, w.1.1)))
+
+pub edge_whole : {A : Type 0} (s : List ℕ) (r : Result A Fault) {a : A} → (admit_text s >>= (λ _. at_edge s r)) ≡ Ok a → (length s ≤ 4096) × (r ≡ Ok a)
+edge_whole s r e =
+    let v = bind_ok (admit_text s) _ e in
+    ((at_ok (λ _. Admitted s) (Inside (length s)) (admit_text s) v.0 (admit_holds s) v.1.0).small, edge_ok s r v.1.1)

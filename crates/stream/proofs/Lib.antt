@@ -1,8 +1,9 @@
-pub mod Flows
-pub mod Opening
+pub mod Binds
 pub mod Shifts
-pub mod Sames
-pub mod Edges
 pub mod Stretches
-pub mod Insides
+pub mod Edges
+pub mod Sames
+pub mod Goes
+pub mod Opening
+pub mod Columns
 pub mod Worked

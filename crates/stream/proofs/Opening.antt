@@ -13,7 +13,7 @@ use Rattle.text_bytes.specs.Moves.{place}
 use Rattle.stream.specs.Faults.{consume_byte}
 use Rattle.text_bytes.specs.Scan.{run, scan}
 use Rattle.text_bytes.specs.Words.{starts_with, part}
-use Rattle.stream.specs.declared.Consumed.TheVariants as K
+use Rattle.std.specs.Prelude.{Ok}
 use Rattle.text_bytes.proofs.Scans.{scan_here}
 
 -- a word and the bracket that opens its arguments
@@ -70,6 +70,6 @@ module _ (w s : List ℕ) (i : ℕ) (o : Opens w (drop i s)) where
   pub word_unspaced : scan is_space s (i + length w) ≡ i + length w
   word_unspaced = scan_here is_space s (i + length w) (rw word_bracket refl) word_before
 
-  pub word_opened : consume_byte s (i + length w) 40 ≡ K.Next (place (i + length w + 1))
+  pub word_opened : consume_byte s (i + length w) 40 ≡ Ok (place (i + length w + 1))
   unfolding consume_byte
   word_opened = simp (lt-leb (length s) (i + length w) word_before, word_bracket)

@@ -2,20 +2,20 @@
 use Prim.Native.Nat.{ℕ, ◌+◌, ◌<◌}
 use mathlib.Core.Bool.{Bool, true, false, cond, ◌&&◌}
 use mathlib.Core.List.{List, ◌++◌}
-use mathlib.Core.Path.{◌≡◌, refl, ap, sym}
+use mathlib.Core.Path.{◌≡◌, refl}
 use native.Mathlib.Omega.{arith}
-use borrow.Author.Tests.{lt-leb, leb-false, eq-eqb, lt-ltb}
-use lib.Dec.{eqb, leb, ltb}
+use borrow.Author.Tests.{lt-leb, eq-eqb, lt-ltb}
+use lib.Dec.{eqb, ltb}
 use lib.ListN.{length, get_or, drop, length-append}
-use Rattle.text_bytes.specs.Flow.{bind}
+use Rattle.text_bytes.specs.Flow.{bind, ◌>>=◌}
 use Rattle.text_bytes.specs.Words.{starts_with, is_curr_byte_eq}
 use Rattle.text_bytes.specs.Moves.{place}
-use Rattle.stream.specs.Faults.{consume_byte, consume_string, parse_list_separator, unexpected_end, invalid_char}
-use Rattle.stream.specs.Moves.{then_consumed}
+use Rattle.stream.specs.Faults.{consume_byte, consume_string, parse_list_separator}
+use Rattle.std.specs.Prelude.{Result, Ok}
+use Rattle.stream.proofs.Binds.{bind_same}
+use Rattle.stream.proofs.Stretches.{Took, LiesFrom, byte_taken}
 use Rattle.text_bytes.specs.declared.Place.{Place}
 use Rattle.stream.specs.declared.Fault.{Fault}
-use Rattle.stream.specs.declared.Consumed.{Consumed}
-use Rattle.stream.specs.declared.Consumed.TheVariants as C
 use Rattle.text_bytes.proofs.Ranges.{either}
 use Rattle.text_bytes.proofs.Wording.{curr_inside, curr_byte}
 use Rattle.text_bytes.proofs.Ahead.{Ahead, Passes, free, ahead_inside, ahead_byte, ahead_scan, ahead_pass, pass_one, pass_here, get_or_more, scan_more, starts_more, end_more, part_more, word_stop, hex_stop, url_stop, digit_stop}
@@ -73,32 +73,12 @@ consume_more a b i c h =
     rw (lt-leb (length (a ++ b)) i m, lt-leb (length a) i l, get_or_more a b i h)
 
 -- a byte that was seen is taken
-pub curr_consumed : (s : List ℕ) (i c : ℕ) {r : Bool} → r ≡ is_curr_byte_eq s i c → r ≡ true → consume_byte s i c ≡ C.Next (place (i + 1))
+pub curr_consumed : (s : List ℕ) (i c : ℕ) {r : Bool} → r ≡ is_curr_byte_eq s i c → r ≡ true → consume_byte s i c ≡ Ok (place (i + 1))
 unfolding consume_byte
 curr_consumed s i c q e = simp (lt-leb (length s) i (curr_inside s i c q e), eq-eqb (get_or s i 0) c (curr_byte s i c q e))
 
--- pass and least: a byte that was taken stands there, and reading goes on right after it
-pub record Took (s : List ℕ) (i c : ℕ) (p : Place) : Type 0 where
-  pub next : p.0 ≡ i + 1
-  pub byte : eqb (get_or s i 0) c ≡ true
-  pub inside : i < length s
-
-pub consume_took : (s : List ℕ) (i c : ℕ) (p : Place) → consume_byte s i c ≡ C.Next p → Took s i c p
-unfolding consume_byte
-consume_took s i c p e = go (leb (length s) i) refl (eqb (get_or s i 0) c) refl e
-  where
-    go : (t : Bool) → leb (length s) i ≡ t → (u : Bool) → eqb (get_or s i 0) c ≡ u
-        → cond t (C.Refused (unexpected_end s)) (cond u (C.Next (place (i + 1))) (C.Refused (invalid_char i (get_or s i 0) c))) ≡ C.Next p → Took s i c p
-    go true f u g e = let z : ◌≡◌ {A = ℕ} 0 1 = cc in absurd (omega arith)
-    go false f true g e =
-        let q : place (i + 1) ≡ p = cc in
-        record { next = sym (ap (λ (x : Place). x.0) q); byte = g; inside = leb-false (length s) i f }
-    go false f false g e = let z : ◌≡◌ {A = ℕ} 0 1 = cc in absurd (omega arith)
-
-pub consume_pass : (s : List ℕ) (i c : ℕ) (p : Place) → consume_byte s i c ≡ C.Next p → eqb 41 c ≡ false → Passes s i p.0
-consume_pass s i c p e f =
-    let w = consume_took s i c p e in
-    rw w.next (pass_one s i (λ x. eqb x c) f w.byte)
+pub took_pass : {s : List ℕ} {i c : ℕ} {p : Place} → Took s i c p → eqb 41 c ≡ false → Passes s i p.0
+took_pass {s} {i} {c} t f = rw t.next (pass_one s i (λ x. eqb x c) f t.byte)
 
 -- a word that was taken is taken whatever follows; the part that 8 tells may grow, so no more is said of a refusal
 pub string_more : (a b : List ℕ) (i : ℕ) (w : List ℕ) → Ahead a i → free w ≡ true → starts_with w (drop i a) ≡ true → consume_string (a ++ b) i w ≡ consume_string a i w
@@ -108,30 +88,17 @@ string_more a b i w h f e =
     let m : i < length (a ++ b) = omega (arith, length-append a b) in
     simp (lt-leb (length (a ++ b)) i m, lt-leb (length a) i l, starts_more w a b i h f, e)
 
--- going on after a byte wanted: what holds of a refusal, and of going on right after that byte, holds
-pub consume_all : {B : Type 0} (P : B → Type 0) (s : List ℕ) (i c : ℕ) (out : Fault → B) (k : Place → B) → ((e : Fault) → P (out e))
-    → (eqb (get_or s i 0) c ≡ true → i < length s → P (k (place (i + 1)))) → P (then_consumed out (consume_byte s i c) k)
-unfolding consume_byte
-consume_all P s i c out k f g =
-    either (leb (length s) i) (λ e. simp e (f (unexpected_end s)))
-    (λ e. either (eqb (get_or s i 0) c) (λ q. simp (e, q) (g q (leb-false (length s) i e))) (λ q. simp (e, q) (f (invalid_char i (get_or s i 0) c))))
-
 -- and with a bracket ahead the two texts are gone on with alike
-pub same_consumed : {B : Type 0} (a b : List ℕ) (i c : ℕ) → Ahead a i → eqb 41 c ≡ false → (out : Fault → B) (k k' : Place → B)
-    → ((p : Place) → Ahead a p.0 → k' p ≡ k p) → then_consumed out (consume_byte (a ++ b) i c) k' ≡ then_consumed out (consume_byte a i c) k
-unfolding consume_byte
-same_consumed a b i c h s out k k' f =
-    let l : leb (length a) i ≡ false = lt-leb (length a) i (ahead_inside h) in
-    rw (consume_more a b i c h)
-    (either (eqb (get_or a i 0) c) (λ q. simp (l, q) (f (place (i + 1)) (next_ahead c q h s))) (λ q. simp (l, q)))
+pub same_byte : {B : Type 0} (a b : List ℕ) (i c : ℕ) → Ahead a i → eqb 41 c ≡ false → (f g : Place → Result B Fault)
+    → ((p : Place) → Ahead a p.0 → g p ≡ f p) → (consume_byte (a ++ b) i c >>= g) ≡ (consume_byte a i c >>= f)
+same_byte a b i c h s f g k =
+    bind_same (Took a i c) (LiesFrom a i) (consume_byte a i c) (consume_byte (a ++ b) i c) f g (consume_more a b i c h) (byte_taken a i c)
+    (λ p t. k p (ahead_pass h (took_pass t s)))
 
 -- the closing bracket itself: nothing is known to be ahead of what follows it
-pub same_closed : {B : Type 0} (a b : List ℕ) (i : ℕ) → Ahead a i → (out : Fault → B) (k k' : Place → B)
-    → ((p : Place) → k' p ≡ k p) → then_consumed out (consume_byte (a ++ b) i 41) k' ≡ then_consumed out (consume_byte a i 41) k
-same_closed a b i h out k k' f = rw (consume_more a b i 41 h) (go (consume_byte a i 41))
-  where
-    go : (x : Consumed) → then_consumed out x k' ≡ then_consumed out x k
-    go (C.Next p) = f p
-    go (C.Refused e) = refl
+pub same_closed : {B : Type 0} (a b : List ℕ) (i : ℕ) → Ahead a i → (f g : Place → Result B Fault)
+    → ((p : Place) → g p ≡ f p) → (consume_byte (a ++ b) i 41 >>= g) ≡ (consume_byte a i 41 >>= f)
+same_closed a b i h f g k =
+    bind_same (Took a i 41) (LiesFrom a i) (consume_byte a i 41) (consume_byte (a ++ b) i 41) f g (consume_more a b i 41 h) (byte_taken a i 41) (λ p t. k p)
 
-pub ruleset sames = (same_cond, same_bind, same_consumed, same_closed, byte_more, curr_more, separator_more, scan_more, end_more, starts_more, part_more, next_ahead, curr_ahead, separator_ahead, ahead_scan, word_stop, hex_stop, url_stop, digit_stop)
+pub ruleset sames = (same_cond, same_bind, same_byte, same_closed, byte_more, curr_more, separator_more, scan_more, end_more, starts_more, part_more, next_ahead, curr_ahead, separator_ahead, ahead_scan, word_stop, hex_stop, url_stop, digit_stop)

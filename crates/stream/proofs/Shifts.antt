@@ -8,11 +8,7 @@ use lib.Seq.{drop-append-add}
 use Rattle.utf8.specs.Characters.{char_len, skip_chars}
 use Rattle.stream.specs.Faults.{consume_byte, consume_string, parse_list_separator}
 use Rattle.text_bytes.specs.Moves.{move_place}
-use Rattle.stream.specs.Moves.{move_fault, move_consumed, then_consumed}
-use Rattle.text_bytes.specs.declared.Place.{Place}
-use Rattle.stream.specs.declared.Fault.{Fault}
-use Rattle.stream.specs.declared.Consumed.{Consumed}
-use Rattle.stream.specs.declared.Consumed.TheVariants as C
+use Rattle.stream.specs.Moves.{moved}
 use Rattle.text_bytes.proofs.Shifts.{cond_push, shifts, curr_shift}
 
 module _ (a b : List ℕ) where
@@ -25,19 +21,10 @@ module _ (a b : List ℕ) where
   chars_shift zero i = refl
   chars_shift (suc n) i = simp (drop-append-add, add_assoc) (chars_shift n (i + char_len (drop i b)))
 
-  pub byte_shift : (i c : ℕ) → consume_byte (a ++ b) (length a + i) c ≡ move_consumed (length a) (consume_byte b i c)
+  pub byte_shift : (i c : ℕ) → consume_byte (a ++ b) (length a + i) c ≡ moved move_place (length a) (consume_byte b i c)
   unfolding consume_byte
-  byte_shift i c = simp (shifts, cond_push (move_consumed (length a)))
+  byte_shift i c = simp (shifts, cond_push (moved move_place (length a)))
 
-  pub string_shift : (i : ℕ) (w : List ℕ) → consume_string (a ++ b) (length a + i) w ≡ move_consumed (length a) (consume_string b i w)
+  pub string_shift : (i : ℕ) (w : List ℕ) → consume_string (a ++ b) (length a + i) w ≡ moved move_place (length a) (consume_string b i w)
   unfolding consume_string
-  string_shift i w = simp (shifts, chars_shift, cond_push (move_consumed (length a)))
-
-module _ {B : Type 0} (n : ℕ) (out : Fault → B) where
-  pub consumed_move : (x : Consumed) (k : Place → B) → then_consumed out (move_consumed n x) k ≡ then_consumed (λ e. out (move_fault n e)) x (λ p. k (move_place n p))
-  consumed_move (C.Next p) k = refl
-  consumed_move (C.Refused f) k = refl
-
-pub consumed_push : {A B : Type 0} (f : A → B) (out : Fault → A) (x : Consumed) (k : Place → A) → f (then_consumed out x k) ≡ then_consumed (λ e. f (out e)) x (λ p. f (k p))
-consumed_push f out (C.Next p) k = refl
-consumed_push f out (C.Refused e) k = refl
+  string_shift i w = simp (shifts, chars_shift, cond_push (moved move_place (length a)))

@@ -2,20 +2,19 @@
 use Prim.Native.Nat.{ℕ, zero, suc, ◌+◌, ◌-◌, ◌≤◌, ◌<◌, min}
 use mathlib.Core.Bool.{true, false}
 use mathlib.Core.List.{List}
-use mathlib.Core.Path.{◌≡◌, refl, ap}
+use mathlib.Core.Path.{◌≡◌, refl}
 use native.Mathlib.Omega.{arith}
 use borrow.Author.Tests.{leb-false}
 use lib.Dec.{leb, eqb}
-use lib.ListN.{length, get_or, drop, length-append, length-drop}
-use Rattle.text_bytes.specs.Moves.{place}
+use lib.ListN.{length, get_or, drop, length-drop}
 use Rattle.text_bytes.specs.Words.{starts_with}
 use Rattle.text_bytes.specs.declared.Place.{Place}
 use Rattle.utf8.specs.Characters.{char_len, skip_chars}
 use Rattle.text_bytes.proofs.Ranges.{either}
-use Rattle.text_bytes.proofs.Wording.{begins_with}
+use Rattle.text_bytes.proofs.Wording.{word_ends}
 use Rattle.utf8.proofs.Octets.{char_le}
-use Rattle.stream.specs.Faults.{trouble_at, unexpected_end, invalid_value, unexpected_data, invalid_char, invalid_string, consume_byte, consume_string}
-use Rattle.stream.specs.Moves.{then_consumed}
+use Rattle.stream.specs.Faults.{trouble_at, unexpected_end, invalid_value, unexpected_data, invalid_char, consume_byte, consume_string}
+use Rattle.std.specs.Prelude.{MatchResult}
 use Rattle.stream.specs.Refusals.{number_of}
 use Rattle.stream.specs.declared.Trouble.{Trouble}
 use Rattle.stream.specs.declared.Trouble.TheVariants as T
@@ -63,23 +62,34 @@ unfolding skip_chars
 skip_le zero s i h = h
 skip_le (suc m) s i h = skip_le m s (i + char_len (drop i s)) (omega (arith, char_le (drop i s), length-drop i s))
 
--- going on after a byte or a word wanted: what holds of every refusal that lies inside, and of going on from every place inside, holds
-module _ {B : Type 0} (P : B → Type 0) (s : List ℕ) (i : ℕ) where
-  pub consume_lies : (c : ℕ) (out : Fault → B) (k : Place → B) → i ≤ length s
-      → ((e : Fault) → LiesAt (length s) e → P (out e)) → ((p : Place) → i < p.0 → p.0 ≤ length s → P (k p)) → P (then_consumed out (consume_byte s i c) k)
-  unfolding consume_byte
-  consume_lies c out k h f g =
-      either (leb (length s) i) (λ e. simp e (f (unexpected_end s) (end_lies s)))
-      (λ e. let l : i < length s = leb-false (length s) i e in
-      either (eqb (get_or s i 0) c) (λ q. simp (e, q) (g (place (i + 1)) (omega arith) (omega arith)))
-      (λ q. simp (e, q) (f (invalid_char i (get_or s i 0) c) (char_lies i (get_or s i 0) c l))))
+-- a byte that was taken stands there, and reading goes on right after it
+pub record Took (s : List ℕ) (i c : ℕ) (p : Place) : Type 0 where
+  pub next : p.0 ≡ i + 1
+  pub byte : eqb (get_or s i 0) c ≡ true
+  pub inside : i < length s
 
-  pub string_lies : (w : List ℕ) (out : Fault → B) (k : Place → B) → i ≤ length s
-      → ((e : Fault) → LiesAt (length s) e → P (out e)) → ((p : Place) → i ≤ p.0 → p.0 ≤ length s → P (k p)) → P (then_consumed out (consume_string s i w) k)
-  unfolding consume_string number_of
-  string_lies w out k h f g =
-      let m = min (length w) (length s - i) in
-      either (leb (length s) i) (λ e. simp e (f (unexpected_end s) (end_lies s)))
-      (λ e. either (starts_with w (drop i s))
-      (λ q. simp (e, q) (g (place (i + length w)) (omega arith) (omega (arith, simp length-append at (ap length (begins_with w (drop i s) q)), length-drop i s))))
-      (λ q. simp (e, q) (f (invalid_string i (skip_chars m s i)) (shown_lies T.InvalidString i (skip_chars m s i) refl (skip_ge m s i) (skip_le m s i h)))))
+pub record TookWord (s : List ℕ) (i : ℕ) (w : List ℕ) (p : Place) : Type 0 where
+  pub next : p.0 ≡ i + length w
+  pub word : starts_with w (drop i s) ≡ true
+  pub short : length w ≤ length s - i
+
+-- a fault of reading at a place of the text
+abbrev pub LiesFrom : List ℕ → ℕ → Fault → Type 0
+LiesFrom s i e = i ≤ length s → LiesAt (length s) e
+
+pub byte_taken : (s : List ℕ) (i c : ℕ) → MatchResult (consume_byte s i c) (Took s i c) (LiesFrom s i)
+unfolding consume_byte
+byte_taken s i c =
+    either (leb (length s) i) (λ e. simp e (λ h. end_lies s))
+    (λ e. let l : i < length s = leb-false (length s) i e in
+    either (eqb (get_or s i 0) c) (λ q. simp (e, q) (record { next = refl; byte = q; inside = l }))
+    (λ q. simp (e, q) (λ h. char_lies i (get_or s i 0) c l)))
+
+pub word_taken : (s : List ℕ) (i : ℕ) (w : List ℕ) → MatchResult (consume_string s i w) (TookWord s i w) (LiesFrom s i)
+unfolding consume_string number_of
+word_taken s i w =
+    let m = min (length w) (length s - i) in
+    either (leb (length s) i) (λ e. simp e (λ h. end_lies s))
+    (λ e. either (starts_with w (drop i s))
+    (λ q. simp (e, q) (record { next = refl; word = q; short = (word_ends w s i q).1 }))
+    (λ q. simp (e, q) (λ h. shown_lies T.InvalidString i (skip_chars m s i) refl (skip_ge m s i) (skip_le m s i h))))

@@ -1,3 +1,6 @@
-pub mod Moves
 pub mod Faults
+pub mod Ends
 pub mod Refusals
+pub mod Moves
+pub mod Paper
+pub mod Steps

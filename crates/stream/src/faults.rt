@@ -1,11 +1,11 @@
 // Faults, made in places alone.
 ghost use Rattle.std.specs.Prelude.{◌≡◌};
-ghost use Rattle.stream.specs.Faults.{trouble_at, unexpected_end, invalid_value, unexpected_data, invalid_char};
+ghost use Rattle.stream.specs.Faults.{trouble_at, unexpected_end, invalid_value, unexpected_data};
+ghost use Rattle.stream.specs.Refusals.{is_outside_domain};
 
 use crate::{Fault, Trouble};
 use text_bytes::Place;
 
-// A trouble that shows no bytes.
 pub fn trouble_at(trouble: Trouble, at: Place, from: Place, to: Place) -> Fault
     ensures { result ≡ trouble_at trouble at.0 from.0 to.0 }
 {
@@ -14,21 +14,14 @@ pub fn trouble_at(trouble: Trouble, at: Place, from: Place, to: Place) -> Fault
         at,
         from,
         to,
-        found: 0,
-        wanted: 0,
     }
 }
 
 pub fn unexpected_end(text: &[u8]) -> Fault
     ensures { result ≡ unexpected_end text.now }
 {
-    let end = text.len();
-    trouble_at(
-        Trouble::UnexpectedEndOfStream,
-        Place(end),
-        Place(end),
-        Place(end),
-    )
+    let end = Place(text.len());
+    trouble_at(Trouble::UnexpectedEndOfStream, end, end, end)
 }
 
 pub fn invalid_value(at: Place) -> Fault
@@ -41,4 +34,15 @@ pub fn unexpected_data(text: &[u8], at: Place) -> Fault
     ensures { result ≡ unexpected_data text.now at.0 }
 {
     trouble_at(Trouble::UnexpectedData, at, at, Place(text.len()))
+}
+
+// Whether a fault is a number outside the domain, which nothing swallows.
+#[tactic(auto, unfolding(crate::specs::Refusals::is_outside_domain))]
+pub fn is_outside_domain(fault: Fault) -> bool
+    ensures { result ≡ is_outside_domain fault }
+{
+    matches!(
+        fault.trouble,
+        Trouble::WrongForm | Trouble::TooLarge | Trouble::ScaleOutOfRange
+    )
 }

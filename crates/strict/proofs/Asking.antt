@@ -4,32 +4,31 @@ use mathlib.Core.Bool.{Bool, true, false, cond, ◌||◌}
 use mathlib.Core.List.{List, [], ◌∷◌, ◌++◌}
 use mathlib.Core.Path.{◌≡◌, refl, sym, ap, ◌∙◌}
 use native.Mathlib.Omega.{arith}
-use borrow.Author.Tests.{lt-ltb, ltb-true, lt-leb}
+use borrow.Author.Tests.{lt-ltb, ltb-true, lt-leb, le-leb}
 use lib.Dec.{eqb, ltb, leb, lit≤}
 use lib.ListN.{length, drop, length-append}
 use Rattle.text_bytes.specs.Bytes.{within}
-use Rattle.text_bytes.specs.Flow.{bind}
 use Rattle.text_bytes.specs.Moves.{place}
 use Rattle.text_bytes.specs.Scan.{run, scan}
 use Rattle.text_bytes.specs.Words.{ascii, same, starts_with, part, lower_of}
 use Rattle.text_bytes.proofs.Ranges.{either}
 use Rattle.text_bytes.proofs.Wording.{same_eq, begins_with}
 use Rattle.utf8.specs.Characters.{keeps, row_of, len_at, char_len, walk, utf8_of, firsts, count, calc_char_pos_at}
-use Rattle.utf8.specs.declared.Utf8.TheVariants.{WellFormed}
+use Rattle.std.specs.Prelude.{Ok, Err, Some}
 use Rattle.stream.specs.Faults.{invalid_value}
-use Rattle.stream.specs.Refusals.{number_of, bare_refusal, empty_refusal, refusal_of}
-use Rattle.stream.proofs.Edges.{admit_long, admit_good}
+use Rattle.stream.specs.declared.Trouble.TheVariants as T
+use Rattle.stream.specs.declared.Reason.TheVariants as R
+use Rattle.stream.specs.Refusals.{number_of, admit_text, admit_utf8, bare_refusal, empty_refusal, refusal_of}
 use Rattle.names.specs.Keywords.{keywords}
 use Rattle.names.specs.Look.{named_of, look_up}
 use Rattle.color.specs.Answer.{from_str}
-use Rattle.color.specs.Color.{rgba, is_rgb, is_hsl, named_color, parse_word, parse_color, parse_color_text}
-use Rattle.color.specs.declared.ColorAnswer.TheVariants as A
-use Rattle.color.specs.declared.ColorRead.TheVariants as C
+use Rattle.color.specs.Color.{is_rgb, is_hsl, named_color, parse_word, parse_color, parse_color_text}
+use Rattle.color.specs.Hex.{rgba}
 use Rattle.color.proofs.Worked as color
 use Rattle.shapes.specs.Walk.{signed, digits, dot, fraction, act, ends, step, all_end, walk as go-along}
 use Rattle.shapes.proofs.Fair.{never}
-use Rattle.strict.specs.Answer.{better, furthest, marked, marked_at, is_shaped, strict_of, strict_from_str}
-use Rattle.strict.specs.Asked.{first_line, after_feed, next_line, asked_of, has_feed, is_settled, is_choice, is_enough, say_loose, say_strict}
+use Rattle.strict.specs.Answer.{furthest, marked, marked_at, is_shaped, strict_of, strict_from_str}
+use Rattle.strict.specs.Asked.{first_line, after_feed, next_line, asked_of, has_feed, is_settled, is_choice, is_enough, say_loose, say_strict, OtherWord}
 
 or_second : (t u : Bool) → u ≡ true → (t || u) ≡ true
 or_second true u e = refl
@@ -109,11 +108,11 @@ settled f b over s t e = either (has_feed s) (λ h. ap f (first_kept s t h)) lon
         let m : 4096 < length (s ++ first_line t) = omega (arith, length-append s (first_line t)) in
         rw (first_on s t h, first_all s h, over s n, over (s ++ first_line t) m) refl
 
-loose_over : (l : List ℕ) → 4096 < length l → from_str l ≡ A.Refused (bare_refusal 1)
-unfolding from_str
-loose_over l h = rw (← admit_long l {e = bare_refusal 1} h refl) refl
+loose_over : (l : List ℕ) → 4096 < length l → from_str l ≡ Err (bare_refusal R.TextTooLong)
+unfolding from_str admit_text
+loose_over l h = simp (lt-leb (length l) 4096 h)
 
-strict_over : (l : List ℕ) → 4096 < length l → strict_from_str l ≡ A.Refused (bare_refusal 1)
+strict_over : (l : List ℕ) → 4096 < length l → strict_from_str l ≡ Err (bare_refusal R.TextTooLong)
 unfolding strict_from_str
 strict_over l h = rw (loose_over l h) refl
 
@@ -141,53 +140,58 @@ enough s t e = either (is_choice (first_line s)) chosen other
     other h =
         let k : is_settled s ≡ true = rw h at e in
         let c : is_choice (first_line (s ++ t)) ≡ false = settled is_choice false choice_over s t k ∙ h in
-        other_line (s ++ t) c ∙ settled strict_from_str (A.Refused (bare_refusal 1)) strict_over s t k ∙ sym (other_line s h)
+        other_line (s ++ t) c ∙ settled strict_from_str (Err (bare_refusal R.TextTooLong)) strict_over s t k ∙ sym (other_line s h)
 
     chosen : is_choice (first_line s) ≡ true → asked_of (s ++ t) ≡ asked_of s
     chosen h =
         let k : is_settled (after_feed s) ≡ true = rw h at e in
         let f : has_feed s ≡ true = either (has_feed s) (λ x. x) (λ x. never (rw (after_nothing s x) at k)) in
-        let l = settled from_str (A.Refused (bare_refusal 1)) loose_over (after_feed s) t k in
-        let m = settled strict_from_str (A.Refused (bare_refusal 1)) strict_over (after_feed s) t k in
+        let l = settled from_str (Err (bare_refusal R.TextTooLong)) loose_over (after_feed s) t k in
+        let m = settled strict_from_str (Err (bare_refusal R.TextTooLong)) strict_over (after_feed s) t k in
         rw (first_kept s t f, after_kept s t f, l, m) refl
 
 -- `read=strict`, its line feed, and one byte more than a text may have are always enough
+pub full_next : (s : List ℕ) → 4109 ≤ length s → is_choice (first_line s) ≡ true → is_settled (after_feed s) ≡ true
+unfolding is_settled
+full_next s h e =
+    let n : 4096 < length (after_feed s) = omega (arith, sizes s, choice_short (first_line s) e) in
+    or_second (has_feed (after_feed s)) (ltb 4096 (length (after_feed s))) (lt-ltb 4096 (length (after_feed s)) n)
+
+pub full_first : (s : List ℕ) → 4109 ≤ length s → is_settled s ≡ true
+unfolding is_settled
+full_first s h = or_second (has_feed s) (ltb 4096 (length s)) (lt-ltb 4096 (length s) (omega arith))
+
+-- `read=strict`, its line feed, and one byte more than a text may have are always enough
 pub full : (s : List ℕ) → 4109 ≤ length s → is_enough s ≡ true
-unfolding is_enough is_settled
-full s h = either (is_choice (first_line s)) chosen (λ e. rw e (or_second (has_feed s) (ltb 4096 (length s)) (lt-ltb 4096 (length s) (omega arith))))
-  where
-    chosen : is_choice (first_line s) ≡ true → cond (is_choice (first_line s)) (is_settled (after_feed s)) (is_settled s) ≡ true
-    chosen e =
-        let n : 4096 < length (after_feed s) = omega (arith, sizes s, choice_short (first_line s) e) in
-        rw e (or_second (has_feed (after_feed s)) (ltb 4096 (length (after_feed s))) (lt-ltb 4096 (length (after_feed s)) n))
+unfolding is_enough
+full s h = either (is_choice (first_line s)) (λ e. rw e (full_next s h e)) (λ e. rw e (full_first s h))
 
 -- the word `read` names no colour, and `=` ends it
-read_word : (l : List ℕ) → parse_color_text (ascii "read=" ++ l) ≡ C.Refused (invalid_value 4)
-unfolding parse_color_text parse_color parse_word part same lower_of is_rgb is_hsl named_color named_of look_up keywords scan run bind within
+read_word : (l : List ℕ) → parse_color_text (ascii "read=" ++ l) ≡ Err (invalid_value 4)
+unfolding parse_color_text parse_color parse_word part same lower_of is_rgb is_hsl named_color named_of look_up keywords scan run within
 read_word l =
     let h : leb (length (ascii "read=" ++ l)) 0 ≡ false = lt-leb (length (ascii "read=" ++ l)) 0 (omega arith) in
     rw h refl
 
 -- "5 for another word after `read=`"
-pub other_word : (s : List ℕ) → starts_with (ascii "read=") (first_line s) ≡ true → is_choice (first_line s) ≡ false → utf8_of (first_line s) ≡ WellFormed → length (first_line s) ≤ 4096
-    → asked_of s ≡ A.Refused (empty_refusal 5 4)
-unfolding strict_from_str from_str refusal_of number_of
+pub other_word : (s : List ℕ) → OtherWord s
+unfolding strict_from_str from_str admit_text admit_utf8 refusal_of number_of
 other_word s b c u h =
     let l = first_line s in
-    let p : parse_color_text l ≡ C.Refused (invalid_value 4) = rw (begins_with (ascii "read=") l b) (read_word (drop 5 l)) in
-    let f : from_str l ≡ A.Refused (empty_refusal 5 4) = rw (← admit_good l h {u = WellFormed} (sym u) refl, p) refl in
+    let p : parse_color_text l ≡ Err (invalid_value 4) = rw (begins_with (ascii "read=") l b) (read_word (drop 5 l)) in
+    let f : from_str l ≡ Err (empty_refusal (R.Unread T.InvalidValue) 4) = simp (le-leb (length l) 4096 h, u, p) in
     other_line s c ∙ rw f refl
 
--- document 01's example, with the line that brings its reading back and without it; and a word in other letters
+-- an example, with the line that brings its reading back and without it; and a word in other letters
 module _ where
-  pub loose_example : asked_of (ascii "read=loose" ++ (10 ∷ ascii "rgb(20%,50,20%)")) ≡ A.Value (rgba 51 255 51 255)
+  pub loose_example : asked_of (ascii "read=loose" ++ (10 ∷ ascii "rgb(20%,50,20%)")) ≡ Ok (rgba 51 255 51 255)
   unfolding asked_of next_line first_line after_feed same
   loose_example = (color.examples).marked
 
-  pub plain_example : asked_of (ascii "rgb(20%,50,20%)") ≡ A.Refused (record { number = 18; position = record { 0 = 11 }; place = place 0; found = 0; wanted = 0; part = record { start = place 0; len = 0 }; from = place 10; to = place 10 })
-  unfolding asked_of first_line same strict_from_str signed digits dot fraction act ends step all_end go-along better furthest marked marked_at is_shaped strict_of within bind run scan lower_of calc_char_pos_at count firsts walk char_len len_at row_of keeps
+  pub plain_example : asked_of (ascii "rgb(20%,50,20%)") ≡ Err (record { reason = R.NotStrict; position = Some (record { 0 = 11 }); from = place 10; to = place 10 })
+  unfolding asked_of first_line same strict_from_str signed digits dot fraction act ends step all_end go-along furthest marked marked_at is_shaped strict_of within run scan lower_of calc_char_pos_at count firsts walk char_len len_at row_of keeps
   plain_example = rw (color.examples).marked refl
 
-  pub capital_example : asked_of (ascii "read=Loose" ++ (10 ∷ ascii "red")) ≡ A.Refused (empty_refusal 5 4)
+  pub capital_example : asked_of (ascii "read=Loose" ++ (10 ∷ ascii "red")) ≡ Err (empty_refusal (R.Unread T.InvalidValue) 4)
   unfolding starts_with first_line is_choice same utf8_of walk char_len len_at row_of keeps within
   capital_example = other_word (ascii "read=Loose" ++ (10 ∷ ascii "red")) refl refl refl (lit≤ tt)

@@ -1,6 +1,6 @@
-pub mod Shaped
 pub mod Answers
-pub mod Furthest
-pub mod Worked
 pub mod Feeds
+pub mod Furthest
+pub mod Shaped
+pub mod Worked
 pub mod Asking

@@ -1,31 +1,28 @@
--- The outside call: the old reading decides first, and of what it accepts the strict texts are left.
-use Rattle.std.specs.Prelude.{ℕ, ◌+◌, max, Bool, true, false, cond, ◌||◌, ◌&&◌, List, [], ◌∷◌, eqb, length, get_or}
+-- The outside call: the loose reading decides first, and of what it accepts the strict texts are left. What stands in quotation marks is the rule.
+use Rattle.std.specs.Prelude.{ℕ, ◌+◌, max, Bool, ◌||◌, ◌&&◌, List, [], ◌∷◌, eqb, get_or, Result, Ok, Err, if◌then◌else◌}
 use Rattle.text_bytes.specs.Bytes.{is_space}
+use Rattle.text_bytes.specs.Flow.{◌>>=◌}
 use Rattle.text_bytes.specs.Moves.{place}
-use Rattle.text_bytes.specs.Flow.{bind}
 use Rattle.text_bytes.specs.Scan.{scan}
 use Rattle.text_bytes.specs.Words.{lower_of}
+use Rattle.text_bytes.specs.declared.Place.{Place}
 use Rattle.stream.specs.Refusals.{refusal_at}
 use Rattle.stream.specs.declared.Refusal.{Refusal}
+use Rattle.stream.specs.declared.Reason.TheVariants as R
 use Rattle.color.specs.Answer.{from_str}
 use Rattle.color.specs.declared.Color.{Color}
-use Rattle.color.specs.declared.ColorAnswer.{ColorAnswer}
-use Rattle.color.specs.declared.ColorAnswer.TheVariants as A
 use Rattle.shapes.specs.Walk.{walk}
-use Rattle.strict.specs.Shapes.{hex_three, hex_six, rgb_whole, rgb_percent, rgba_whole, rgba_percent, hsl, hsla}
 use Rattle.shapes.specs.declared.Atom.{Atom}
-use Rattle.shapes.specs.declared.Walked.{Walked}
+use Rattle.strict.specs.Shapes.{hex_three, hex_six, rgb_whole, rgb_percent, rgba_whole, rgba_percent, hsl, hsla}
 
--- of two walks the further
-unfoldable pub better : Walked → Walked → Walked
-better a b = record { far = place (max a.far.0 b.far.0); whole = a.whole || b.whole }
+abbrev pub or_further : Result (Unit {0}) Place → ℕ → (ℕ → Result (Unit {0}) Place) → Result (Unit {0}) Place
+or_further (Ok u) far k = Ok u
+or_further (Err p) far k = k (max far p.0)
 
-unfoldable pub furthest : List (List Atom) → List ℕ → Walked → Walked
-furthest [] s w = w
-furthest (x ∷ xs) s w = better (walk 0 x s) (furthest xs s w)
-
-abbrev pub nowhere : Walked
-nowhere = record { far = place 0; whole = false }
+-- whether one of the shapes walks a text to its end, or else how far the furthest goes
+unfoldable pub furthest : List (List Atom) → List ℕ → ℕ → Result (Unit {0}) Place
+furthest [] s far = Err (place far)
+furthest (x ∷ xs) s far = or_further (walk 0 x s) far (λ n. furthest xs s n)
 
 abbrev pub shapes : List (List Atom)
 shapes = hex_three ∷ hex_six ∷ rgb_whole ∷ rgb_percent ∷ rgba_whole ∷ rgba_percent ∷ hsl ∷ hsla ∷ []
@@ -35,29 +32,26 @@ unfoldable pub marked : ℕ → ℕ → ℕ → Bool
 marked a b c = eqb a 35 || ((eqb a 114 && (eqb b 103 && eqb c 98)) || (eqb a 104 && (eqb b 115 && eqb c 108)))
 
 unfoldable pub marked_at : List ℕ → ℕ → Bool
-marked_at s i =
-    bind (lower_of (get_or s i 0)) (λ a.
-    bind (lower_of (get_or s (i + 1) 0)) (λ b.
-    bind (lower_of (get_or s (i + 2) 0)) (λ c. marked a b c)))
+marked_at s i = marked (lower_of (get_or s i 0)) (lower_of (get_or s (i + 1) 0)) (lower_of (get_or s (i + 2) 0))
 
--- a text that is no hex colour and no function is a keyword, if the old reading accepts it
+-- a text that is no hex colour and no function is a keyword, if the loose reading accepts it
 unfoldable pub is_shaped : List ℕ → Bool
-is_shaped s = bind (scan is_space s 0) (λ i. marked_at s i)
+is_shaped s = marked_at s (scan is_space s 0)
 
-unfoldable pub strict_of : List ℕ → Walked
-strict_of s = cond (is_shaped s) (furthest shapes s nowhere) (record { far = place (length s); whole = true })
+-- a keyword is strict; of other texts those that a shape walks to its end
+unfoldable pub strict_of : List ℕ → Result (Unit {0}) Place
+strict_of s = if is_shaped s then furthest shapes s 0 else Ok tt
 
 -- "18, for what the old reading accepts and the strict one does not", at a place of the text
 abbrev pub not_strict : List ℕ → ℕ → Refusal
-not_strict s i = refusal_at s 18 i
+not_strict s i = refusal_at s R.NotStrict i
 
--- go on with a colour that is answered, or refuse
-abbrev pub then_answer : {B : Type 0} → (Refusal → B) → ColorAnswer → (Color → B) → B
-then_answer out (A.Value c) k = k c
-then_answer out (A.Refused e) k = out e
+abbrev pub or_not_strict : List ℕ → Result (Unit {0}) Place → Result (Unit {0}) Refusal
+or_not_strict s (Ok u) = Ok u
+or_not_strict s (Err p) = Err (not_strict s p.0)
 
-unfoldable pub strict_from_str : List ℕ → ColorAnswer
-strict_from_str s =
-    then_answer A.Refused (from_str s) (λ c.
-    bind (strict_of s) (λ w.
-    cond w.whole (A.Value c) (A.Refused (not_strict s w.far.0))))
+unfoldable pub strict_from_str : List ℕ → Result Color Refusal
+strict_from_str s = do
+  color ← from_str s
+  _ ← or_not_strict s (strict_of s)
+  Ok color

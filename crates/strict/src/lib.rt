@@ -1,97 +1,54 @@
 // The strict reading of a colour: CSS Color 3 as it is written, for new artwork.
 #![tactic(auto)]
 
-ghost use Rattle.std.specs.Prelude.{◌≡◌, map, ◌≤◌, max, length, get_or};
+ghost use Rattle.std.specs.Prelude.{◌≡◌, ◌≤◌, length, get_or};
 ghost use Rattle.text_bytes.specs.Words.{lower_of};
 ghost use Rattle.color.specs.Paper.{paper};
-ghost use Rattle.shapes.specs.Walk.{atom_of, walk};
-ghost use Rattle.strict.specs.Answer.{better, furthest, nowhere, shapes, marked, marked_at, is_shaped, strict_of, strict_from_str};
+ghost use Rattle.strict.specs.Answer.{furthest, shapes, marked, marked_at, is_shaped, strict_of, strict_from_str};
 
-use color::ColorAnswer;
-use shapes::Walked;
+use color::Color;
+use stream::{Reason, Refusal};
 use text_bytes::Place;
 
 mod lines;
 
 pub use lines::{asked, is_enough};
 
-// What the loose reading accepts and the strict one does not.
-const NOT_STRICT: u8 = 18;
+// The eight shapes, by the codes of `shapes`: of three and six digits, of rgb() and rgba(), twice each, and of hsl() and hsla().
+const SHAPES: [&[u8]; 8] = [
+    b"\x01#\x02\x02\x02\x01",
+    b"\x01#\x02\x02\x02\x02\x02\x02\x01",
+    b"\x01rgb(\x01\x03\x01,\x01\x03\x01,\x01\x03\x01)\x01",
+    b"\x01rgb(\x01\x04%\x01,\x01\x04%\x01,\x01\x04%\x01)\x01",
+    b"\x01rgba(\x01\x03\x01,\x01\x03\x01,\x01\x03\x01,\x01\x04\x01)\x01",
+    b"\x01rgba(\x01\x04%\x01,\x01\x04%\x01,\x01\x04%\x01,\x01\x04\x01)\x01",
+    b"\x01hsl(\x01\x04\x01,\x01\x04%\x01,\x01\x04%\x01)\x01",
+    b"\x01hsla(\x01\x04\x01,\x01\x04%\x01,\x01\x04%\x01,\x01\x04\x01)\x01",
+];
 
-// Of two places the further.
-fn further(a: Place, b: Place) -> Place
-    ensures { result.0 ≡ max a.0 b.0 }
+// Whether a shape walks a text to its end, or else how far the furthest goes.
+#[tactic(auto, unfolding(crate::specs::Answer::furthest, shapes::specs::Walk::atom_of))]
+fn furthest_of(text: &[u8]) -> Result<(), Place>
+    ensures { result ≡ furthest shapes text.now 0 }
 {
-    if a.0 < b.0 { b } else { a }
-}
-
-// Of two walks the further.
-fn better(a: Walked, b: Walked) -> Walked
-    ensures { result ≡ better a b }
-{
-    let p = a.far;
-    let q = b.far;
-    Walked {
-        far: further(p, q),
-        whole: a.whole | b.whole,
+    let mut far = Place(0);
+    for shape in SHAPES {
+        match shapes::walk(shape, text) {
+            Ok(()) => return Ok(()),
+            Err(at) => far = Place(far.0.max(at.0)),
+        }
     }
+    Err(far)
 }
 
-// A text walked by one shape more.
-fn try_shape(shape: &[u8], text: &[u8], w: Walked) -> Walked
-    ensures { result ≡ better (walk 0 (map atom_of shape.now) text.now) w }
-{
-    better(shapes::walk(shape, text), w)
-}
-
-// The furthest of the eight shapes, by their atoms' codes: of hsl() and hsla(), of rgba() and rgb(), twice each, and of six and three digits.
-fn furthest_of(text: &[u8]) -> Walked
-    ensures { result ≡ furthest shapes text.now nowhere }
-{
-    let none = Walked {
-        far: Place(0),
-        whole: false,
-    };
-    let a = try_shape(
-        b"\x01hsla(\x01\x04\x01,\x01\x04%\x01,\x01\x04%\x01,\x01\x04\x01)\x01",
-        text,
-        none,
-    );
-    let b = try_shape(
-        b"\x01hsl(\x01\x04\x01,\x01\x04%\x01,\x01\x04%\x01)\x01",
-        text,
-        a,
-    );
-    let c = try_shape(
-        b"\x01rgba(\x01\x04%\x01,\x01\x04%\x01,\x01\x04%\x01,\x01\x04\x01)\x01",
-        text,
-        b,
-    );
-    let d = try_shape(
-        b"\x01rgba(\x01\x03\x01,\x01\x03\x01,\x01\x03\x01,\x01\x04\x01)\x01",
-        text,
-        c,
-    );
-    let e = try_shape(
-        b"\x01rgb(\x01\x04%\x01,\x01\x04%\x01,\x01\x04%\x01)\x01",
-        text,
-        d,
-    );
-    let f = try_shape(
-        b"\x01rgb(\x01\x03\x01,\x01\x03\x01,\x01\x03\x01)\x01",
-        text,
-        e,
-    );
-    let g = try_shape(b"\x01#\x02\x02\x02\x02\x02\x02\x01", text, f);
-    try_shape(b"\x01#\x02\x02\x02\x01", text, g)
-}
-
+#[tactic(auto, unfolding(crate::specs::Answer::marked))]
 fn is_marked(a: u8, b: u8, c: u8) -> bool
     ensures { result ≡ marked a b c }
 {
-    (a == b'#')
-        | (((a == b'r') & ((b == b'g') & (c == b'b')))
-            | ((a == b'h') & ((b == b's') & (c == b'l'))))
+    matches!(
+        (a, b, c),
+        (b'#', _, _) | (b'r', b'g', b'b') | (b'h', b's', b'l')
+    )
 }
 
 fn low_at(text: &[u8], at: Place) -> u8
@@ -100,52 +57,45 @@ fn low_at(text: &[u8], at: Place) -> u8
     text_bytes::to_ascii_lowercase(text_bytes::byte_at(text, at))
 }
 
+// `at` lies inside, so that the places after it are usizes.
+#[tactic(auto, unfolding(crate::specs::Answer::marked_at))]
 fn marked_at(text: &[u8], at: Place) -> bool
-    requires { at.0 ≤ 4096 }
+    requires { at.0 ≤ length text.now }
     ensures { result ≡ marked_at text.now at.0 }
 {
     let i = at.0;
-    let a = low_at(text, at);
-    let b = low_at(text, Place(i + 1));
-    let c = low_at(text, Place(i + 2));
-    is_marked(a, b, c)
+    is_marked(
+        low_at(text, at),
+        low_at(text, Place(i + 1)),
+        low_at(text, Place(i + 2)),
+    )
 }
 
-// A hex colour or a function: what the old reading accepts besides is a keyword.
+// A hex colour or a function: what the loose reading accepts besides is a keyword.
+#[tactic(auto, unfolding(crate::specs::Answer::is_shaped), using(text_bytes::proofs::Scans::scan_le))]
 fn is_shaped(text: &[u8]) -> bool
-    requires { length text.now ≤ 4096 }
     ensures { result ≡ is_shaped text.now }
 {
     marked_at(text, text_bytes::skip_spaces(text, Place(0)))
 }
 
-fn strict_of(text: &[u8]) -> Walked
-    requires { length text.now ≤ 4096 }
+#[tactic(auto, unfolding(crate::specs::Answer::strict_of))]
+fn strict_of(text: &[u8]) -> Result<(), Place>
     ensures { result ≡ strict_of text.now }
 {
     if is_shaped(text) {
         return furthest_of(text);
     }
-    Walked {
-        far: Place(text.len()),
-        whole: true,
-    }
+    Ok(())
 }
 
 // A strict colour as a whole text: what `color::from_str` refuses is refused as there.
-pub fn from_str(text: &[u8]) -> ColorAnswer
+#[tactic(auto, unfolding(crate::specs::Answer::strict_from_str), using(crate::proofs::Answers::value_utf8))]
+pub fn from_str(text: &[u8]) -> Result<Color, Refusal>
     ensures value { result ≡ strict_from_str text.now }
     ensures result_value { paper result ≡ paper (strict_from_str text.now) }
 {
-    match color::from_str(text) {
-        ColorAnswer::Refused(e) => ColorAnswer::Refused(e),
-        ColorAnswer::Value(c) => {
-            let w = strict_of(text);
-            if w.whole {
-                return ColorAnswer::Value(c);
-            }
-            let far = w.far;
-            ColorAnswer::Refused(stream::refusal_at(text, NOT_STRICT, far))
-        }
-    }
+    let color = color::from_str(text)?;
+    strict_of(text).map_err(|far| stream::refusal_at(text, Reason::NotStrict, far))?;
+    Ok(color)
 }

@@ -6,6 +6,7 @@ use mathlib.Core.Path.{◌≡◌, refl, sym}
 use native.Mathlib.Omega.{arith}
 use lib.Dec.{lit≤}
 use Rattle.text_bytes.specs.Bytes.{within, is_lower}
+use Rattle.std.specs.Prelude.{Ok}
 use Rattle.shapes.specs.Walk.{walk}
 use Rattle.strict.specs.Shapes as S
 use Rattle.shapes.specs.declared.Atom.{Atom}
@@ -177,7 +178,7 @@ shape_of (K.rgba w (percentages x y z) a) = S.rgba_percent
 shape_of (K.hsl w t) = S.hsl
 shape_of (K.hsla w t a) = S.hsla
 
-pub tree_walks : (t : Functional) → AllInDomain t → AllPlain t → (before after : List Blank) → (walk 0 (shape_of t) (blanks before ++ (functional t ++ blanks after))).whole ≡ true
+pub tree_walks : (t : Functional) → AllInDomain t → AllPlain t → (before after : List Blank) → walk 0 (shape_of t) (blanks before ++ (functional t ++ blanks after)) ≡ Ok tt
 unfolding spaced
 tree_walks (K.rgb w (integers x y z)) d p before after =
     parts_walk S.rgb_whole rgb_whole_well _ (rgb_whole_is.to (record { before = before; value = (w, ((x, d.0), ((y, d.1.0), (z, d.1.1)))); after = after })) 0
@@ -204,31 +205,31 @@ unfolding spaced colour
 strict_of s tree d p r = record { before = r.0.before; tree = function (tree r.0.value) (d r.0.value); after = r.0.after; house = p r.0.value; is = r.1 }
 
 module _ (s : List ℕ) where
-  pub rgb_whole_tree : (walk 0 S.rgb_whole s).whole ≡ true → Strict s
+  pub rgb_whole_tree : walk 0 S.rgb_whole s ≡ Ok tt → Strict s
   rgb_whole_tree e =
       strict_of s (λ p. K.rgb p.0 (ints p.1)) (λ p. (p.1.0.1, (p.1.1.0.1, p.1.1.1.1))) (λ p. tt) (rgb_whole_is.from s (walk_parts s 0 S.rgb_whole e))
 
-  pub rgb_percent_tree : (walk 0 S.rgb_percent s).whole ≡ true → Strict s
+  pub rgb_percent_tree : walk 0 S.rgb_percent s ≡ Ok tt → Strict s
   rgb_percent_tree e =
       strict_of s (λ p. K.rgb p.0 (pers p.1)) (λ p. (p.1.0.1.1, (p.1.1.0.1.1, p.1.1.1.1.1))) (λ p. (p.1.0.1.0, (p.1.1.0.1.0, p.1.1.1.1.0)))
       (rgb_percent_is.from s (walk_parts s 0 S.rgb_percent e))
 
-  pub hsl_tree : (walk 0 S.hsl s).whole ≡ true → Strict s
+  pub hsl_tree : walk 0 S.hsl s ≡ Ok tt → Strict s
   hsl_tree e =
       strict_of s (λ p. K.hsl p.0 (hues p.1)) (λ p. (p.1.0.1.1, (p.1.1.0.1.1, p.1.1.1.1.1))) (λ p. (p.1.0.1.0, (p.1.1.0.1.0, p.1.1.1.1.0)))
       (hsl_plain.from s (walk_parts s 0 S.hsl e))
 
-  pub rgba_whole_tree : (walk 0 S.rgba_whole s).whole ≡ true → Strict s
+  pub rgba_whole_tree : walk 0 S.rgba_whole s ≡ Ok tt → Strict s
   rgba_whole_tree e =
       strict_of s (λ p. K.rgba p.0 (ints p.1.0) p.1.1.0) (λ p. ((p.1.0.0.1, (p.1.0.1.0.1, p.1.0.1.1.1)), p.1.1.1.1)) (λ p. (tt, p.1.1.1.0))
       (rgba_whole_is.from s (walk_parts s 0 S.rgba_whole e))
 
-  pub rgba_percent_tree : (walk 0 S.rgba_percent s).whole ≡ true → Strict s
+  pub rgba_percent_tree : walk 0 S.rgba_percent s ≡ Ok tt → Strict s
   rgba_percent_tree e =
       strict_of s (λ p. K.rgba p.0 (pers p.1.0) p.1.1.0) (λ p. ((p.1.0.0.1.1, (p.1.0.1.0.1.1, p.1.0.1.1.1.1)), p.1.1.1.1))
       (λ p. ((p.1.0.0.1.0, (p.1.0.1.0.1.0, p.1.0.1.1.1.0)), p.1.1.1.0)) (rgba_percent_is.from s (walk_parts s 0 S.rgba_percent e))
 
-  pub hsla_tree : (walk 0 S.hsla s).whole ≡ true → Strict s
+  pub hsla_tree : walk 0 S.hsla s ≡ Ok tt → Strict s
   hsla_tree e =
       strict_of s (λ p. K.hsla p.0 (hues p.1.0) p.1.1.0) (λ p. ((p.1.0.0.1.1, (p.1.0.1.0.1.1, p.1.0.1.1.1.1)), p.1.1.1.1))
       (λ p. ((p.1.0.0.1.0, (p.1.0.1.0.1.0, p.1.0.1.1.1.0)), p.1.1.1.0)) (hsla_alpha.from s (walk_parts s 0 S.hsla e))

@@ -7,6 +7,7 @@ use native.Mathlib.Omega.{arith}
 use lib.Dec.{lit≤}
 use Rattle.text_bytes.specs.Bytes.{within, is_hex_digit}
 use Rattle.text_bytes.proofs.Ranges.{either, within_ge, within_le, within_yes, within_high}
+use Rattle.std.specs.Prelude.{Ok}
 use Rattle.shapes.specs.Walk.{act, ends, walk}
 use Rattle.strict.specs.Shapes as S
 use Rattle.shapes.specs.declared.Atom.TheVariants as A
@@ -75,11 +76,11 @@ six_spells =
 
 -- THEOREM. The texts of three and of six digits, in white space, are walked to their ends.
 module _ (before after : List Blank) where
-  pub three_walks : (r g b : Digit) → (walk 0 S.hex_three (blanks before ++ (hex_text (three r g b) ++ blanks after))).whole ≡ true
+  pub three_walks : (r g b : Digit) → walk 0 S.hex_three (blanks before ++ (hex_text (three r g b) ++ blanks after)) ≡ Ok tt
   unfolding spaced
   three_walks r g b = parts_walk S.hex_three three_well _ (three_spells.to (record { before = before; value = (r, (g, b)); after = after })) 0
 
-  pub six_walks : (r r' g g' b b' : Digit) → (walk 0 S.hex_six (blanks before ++ (hex_text (six r r' g g' b b') ++ blanks after))).whole ≡ true
+  pub six_walks : (r r' g g' b b' : Digit) → walk 0 S.hex_six (blanks before ++ (hex_text (six r r' g g' b b') ++ blanks after)) ≡ Ok tt
   unfolding spaced
   six_walks r r' g g' b b' = parts_walk S.hex_six six_well _ (six_spells.to (record { before = before; value = ((r, (r', g)), (g', (b, b'))); after = after })) 0
 
@@ -89,8 +90,8 @@ unfolding spaced colour
 hex_strict s tree p r = record { before = r.0.before; tree = hex (tree r.0.value); after = r.0.after; house = p r.0.value; is = r.1 }
 
 module _ (s : List ℕ) where
-  pub three_tree : (walk 0 S.hex_three s).whole ≡ true → Strict s
+  pub three_tree : walk 0 S.hex_three s ≡ Ok tt → Strict s
   three_tree e = hex_strict s (λ p. three p.0 p.1.0 p.1.1) (λ p. tt) (three_spells.from s (walk_parts s 0 S.hex_three e))
 
-  pub six_tree : (walk 0 S.hex_six s).whole ≡ true → Strict s
+  pub six_tree : walk 0 S.hex_six s ≡ Ok tt → Strict s
   six_tree e = hex_strict s six_of (λ p. tt) (six_spells.from s (walk_parts s 0 S.hex_six e))

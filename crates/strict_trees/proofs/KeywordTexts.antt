@@ -10,18 +10,19 @@ use lib.Dec.{eqb, leb, ltb}
 use lib.ListN.{length, get_or, take, drop, length-append, length-map, take-append-drop}
 use lib.Seq.{length-take-le}
 use Rattle.text_bytes.specs.Bytes.{within, is_upper, is_space, is_ascii_ident}
-use Rattle.text_bytes.specs.Flow.{bind}
+use Rattle.std.specs.Prelude.{Result, Ok, Err, Option, Some, None}
 use Rattle.text_bytes.specs.Moves.{place}
 use Rattle.text_bytes.specs.Scan.{run, scan}
 use Rattle.text_bytes.specs.Words as words
 use Rattle.text_bytes.specs.Words.{same, lower_of, lowered, part}
-use Rattle.text_bytes.specs.declared.Place.{Place}
 use Rattle.text_bytes.proofs.Ranges.{either}
 use Rattle.text_bytes.proofs.Scans.{scan_le}
 use Rattle.text_bytes.proofs.Wording.{same_eq}
 use Rattle.stream.specs.Refusals.{admit_text}
-use Rattle.stream.specs.declared.Admission.{Admission}
-use Rattle.stream.specs.declared.Admission.TheVariants as M
+use Rattle.stream.specs.Moves.{moved}
+use Rattle.stream.specs.declared.Fault.{Fault}
+use Rattle.stream.specs.declared.Read.{Read}
+use Rattle.stream.specs.declared.Refusal.{Refusal}
 use Rattle.names.specs.Keywords as own
 use Rattle.names.specs.Look.{look_up, named_of}
 use Rattle.names.specs.declared.Named as named
@@ -30,14 +31,10 @@ use Rattle.names.proofs.Naming.{at}
 use Rattle.names.proofs.Tables.{table_count}
 use Rattle.color.specs.Answer.{from_str}
 use Rattle.color.specs.Color.{is_rgb, is_hsl, parse_rgb, parse_hsl, named_read, named_color, parse_word, parse_color, parse_color_text}
-use Rattle.color.specs.Moves.{move_color_read}
+use Rattle.color.proofs.Shifts.{move_color}
 use Rattle.color.specs.declared.Color.{Color}
-use Rattle.color.specs.declared.ColorRead.{ColorRead}
-use Rattle.color.specs.declared.ColorRead.TheVariants as C
-use Rattle.color.specs.declared.ColorAnswer.TheVariants as A
 use Rattle.strict.specs.Answer.{marked, marked_at, is_shaped}
-use Rattle.strict.proofs.Answers.{never_value, never_read}
-use Rattle.shapes.proofs.Fair.{never}
+use Rattle.shapes.proofs.Fair.{never, never_ok}
 use Rattle.standards.specs.Written.{ascii}
 use Rattle.standards.specs.CssValues3.{Blank, blank, blanks}
 use Rattle.standards.specs.CssColor3.{Spelling, done, small, capital, spelling}
@@ -77,21 +74,24 @@ found (e ∷ es) w =
 abbrev Named : List ℕ → Type 0
 Named w = ((k : ℕ) × ((k < length own.keywords) × ((at own.keywords k).name ≡ lowered w))) ⊎ (lowered w ≡ words.ascii "transparent")
 
-named_read_is : (w : List ℕ) (n : ℕ) (c : Color) (p : Place) → named_color w n ≡ C.Value c p → Named w × (p ≡ place n)
+next_is : {q r : Read Color} → ◌≡◌ {A = Result (Read Color) Fault} (Ok q) (Ok r) → r.next ≡ q.next
+next_is {q} {r} e = let f : r ≡ q = cc in ap (λ (x : Read Color). x.next) f
+
+named_read_is : (w : List ℕ) (n : ℕ) (r : Read Color) → named_color w n ≡ Ok r → Named w × (r.next ≡ place n)
 unfolding named_color
-named_read_is w n c p q = (name, after (named_of w) q)
+named_read_is w n r q = (name, after (named_of w) q)
   where
-    after : (x : named.Named) → named_read x n ≡ C.Value c p → p ≡ place n
-    after (N.Keyword y) h = cc
-    after N.Transparent h = cc
-    after N.Unknown h = never_read h
+    after : (x : Option named.Named) → named_read x n ≡ Ok r → r.next ≡ place n
+    after (Some (N.Keyword y)) h = next_is h
+    after (Some N.Transparent) h = next_is h
+    after None h = never_ok h
 
     name : Named w
     name =
         ⊎_elim (λ (r : (k : ℕ) × ((k < length own.keywords) × ((at own.keywords k).name ≡ lowered w))). inl r)
         (λ (r : look_up own.keywords (lowered w) ≡ look_up [] (lowered w)).
         either (same (lowered w) (words.ascii "transparent")) (λ t. inr (same_eq (lowered w) (words.ascii "transparent") t))
-        (λ t. let z : named_of w ≡ N.Unknown = unfold named_of look_up in r ∙ simp t in never_read (rw z at q)))
+        (λ t. let z : named_of w ≡ None = unfold named_of look_up in r ∙ simp t in never_ok (rw z at q)))
         (found own.keywords (lowered w))
 
 -- three letters at the front of a word are so at the front of the text
@@ -110,7 +110,7 @@ starts (a ∷ b ∷ c ∷ r) (suc (suc (suc n))) x y z zs e = (cc, (cc, cc))
 
 module _ (r : List ℕ) (u : marked_at r 0 ≡ false) (n : ℕ) where
   no_letters : {C : Type 0} (x y z : ℕ) (zs : List ℕ) → marked x y z ≡ true → lowered (take n r) ≡ x ∷ y ∷ z ∷ zs → C
-  unfolding marked_at bind
+  unfolding marked_at
   no_letters x y z zs m e =
       let s : (lower_of (get_or r 0 0) ≡ x) × ((lower_of (get_or r 1 0) ≡ y) × (lower_of (get_or r 2 0) ≡ z)) = starts r n x y z zs e in
       never (sym u ∙ rw (s.0, s.1.0, s.1.1) m)
@@ -129,27 +129,27 @@ module _ (r : List ℕ) (u : marked_at r 0 ≡ false) (n : ℕ) where
 
 -- a text that begins with no space and as no shape does is read as a word
 goes_word : (r : List ℕ) → is_space (get_or r 0 0) ≡ false → marked_at r 0 ≡ false → 0 < length r → parse_color r 0 ≡ parse_word r 0
-unfolding parse_color bind scan run marked_at marked lower_of within
+unfolding parse_color scan run marked_at marked lower_of within
 goes_word [] f u h = absurd (omega arith)
 goes_word (x ∷ xs) f u h =
     let a : leb (suc (length xs)) 0 ≡ false = lt-leb (suc (length xs)) 0 (omega arith) in
     let v : eqb x 35 ≡ false = either (eqb x 35) (λ e. let k : x ≡ 35 = eqb-true x 35 e in never (sym (rw k at u))) (λ e. e) in
     simp (f, a, v)
 
-word_parsed : (r : List ℕ) → marked_at r 0 ≡ false → (c : Color) (p : Place) → parse_word r 0 ≡ C.Value c p
-    → (n : ℕ) → n ≡ scan is_ascii_ident r 0 → Named (take n r) × (p ≡ place n)
-unfolding parse_word bind part
-word_parsed r u c p q n k =
+word_parsed : (r : List ℕ) → marked_at r 0 ≡ false → (x : Read Color) → parse_word r 0 ≡ Ok x
+    → (n : ℕ) → n ≡ scan is_ascii_ident r 0 → Named (take n r) × (x.next ≡ place n)
+unfolding parse_word part
+word_parsed r u x q n k =
     let z : n - 0 ≡ n = omega arith in
-    let h : cond (is_rgb (take n r)) (parse_rgb r n) (cond (is_hsl (take n r)) (parse_hsl r n) (named_color (take n r) n)) ≡ C.Value c p = rw (← k, z) at q in
+    let h : cond (is_rgb (take n r)) (parse_rgb r n) (cond (is_hsl (take n r)) (parse_hsl r n) (named_color (take n r) n)) ≡ Ok x = rw (← k, z) at q in
     either (is_rgb (take n r)) (λ e. no_rgb r u n e)
-    (λ e. either (is_hsl (take n r)) (λ g. no_hsl r u n g) (λ g. named_read_is (take n r) n c p (simp (e, g) at h)))
+    (λ e. either (is_hsl (take n r)) (λ g. no_hsl r u n g) (λ g. named_read_is (take n r) n x (simp (e, g) at h)))
 
-word_read : (r : List ℕ) → is_space (get_or r 0 0) ≡ false → marked_at r 0 ≡ false → (c : Color) (p : Place) → parse_color r 0 ≡ C.Value c p
-    → (n : ℕ) → n ≡ scan is_ascii_ident r 0 → Named (take n r) × (p ≡ place n)
-unfolding parse_color bind scan run
-word_read [] f u c p q n k = never_read q
-word_read (x ∷ xs) f u c p q n k = word_parsed (x ∷ xs) u c p (sym (goes_word (x ∷ xs) f u (omega arith)) ∙ q) n k
+word_read : (r : List ℕ) → is_space (get_or r 0 0) ≡ false → marked_at r 0 ≡ false → (y : Read Color) → parse_color r 0 ≡ Ok y
+    → (n : ℕ) → n ≡ scan is_ascii_ident r 0 → Named (take n r) × (y.next ≡ place n)
+unfolding parse_color scan run
+word_read [] f u y q n k = never_ok q
+word_read (x ∷ xs) f u y q n k = word_parsed (x ∷ xs) u y (sym (goes_word (x ∷ xs) f u (omega arith)) ∙ q) n k
 
 -- nothing but spaces is white space
 all_blanks : (t : List ℕ) → length t ≤ run is_space t → (m : List Blank) × (t ≡ blanks m)
@@ -176,8 +176,8 @@ named_strict l m w (inr e) =
     record { before = l; tree = transparent x.0; after = m; house = tt; is = rw x.1 refl }
 
 module _ (s : List ℕ) (l : List Blank) (r : List ℕ) (d : s ≡ blanks l ++ r) (f : is_space (get_or r 0 0) ≡ false) (u : marked_at r 0 ≡ false) where
-  moved : parse_color s 0 ≡ move_color_read (length l) (parse_color r 0)
-  moved = rw d (after_blanks l r)
+  shifted : parse_color s 0 ≡ moved move_color (length l) (parse_color r 0)
+  shifted = rw d (after_blanks l r)
 
   -- what is left after the word of n bytes is white space
   rest_strict : (n : ℕ) → n ≤ length r → Named (take n r) → length s ≤ scan is_space s (length l + n) → Strict s
@@ -192,29 +192,29 @@ module _ (s : List ℕ) (l : List Blank) (r : List ℕ) (d : s ≡ blanks l ++ r
       let m : (m : List Blank) × (drop n r ≡ blanks m) = all_blanks (drop n r) (omega arith) in
       rw (e, m.1) (named_strict l m.0 (take n r) v)
 
-  text_strict : (c : Color) (p : Place) → parse_color_text s ≡ C.Value c p → Strict s
-  unfolding parse_color_text bind
-  text_strict c p q = go (parse_color r 0) refl
+  text_strict : (y : Read Color) → parse_color_text s ≡ Ok y → Strict s
+  unfolding parse_color_text
+  text_strict y q = go (parse_color r 0) refl
     where
-      go : (y : ColorRead) → parse_color r 0 ≡ y → Strict s
-      go (C.Refused e) h = never_read (simp (moved, h) at q)
-      go (C.Value x i) h =
+      go : (z : Result (Read Color) Fault) → parse_color r 0 ≡ z → Strict s
+      go (Err x) h = never_ok (simp (shifted, h) at q)
+      go (Ok x) h =
           let n = scan is_ascii_ident r 0 in
-          let v : Named (take n r) × (i ≡ place n) = word_read r f u x i h n refl in
-          let w : i ≡ place n = v.1 in
+          let v : Named (take n r) × (x.next ≡ place n) = word_read r f u x h n refl in
+          let w : x.next ≡ place n = v.1 in
           either (ltb (scan is_space s (length l + n)) (length s))
-          (λ t. never_read (simp (moved, h, w, t) at q))
+          (λ t. never_ok (simp (shifted, h, w, t) at q))
           (λ t. rest_strict n (scan_le is_ascii_ident r 0 (omega arith)) v.0 (ltb-false (scan is_space s (length l + n)) (length s) t))
 
 -- THEOREM. What the old reading accepts and no shape begins is strict: a keyword, or `transparent`.
-pub word_strict : (s : List ℕ) (c : Color) → is_shaped s ≡ false → from_str s ≡ A.Value c → Strict s
+pub word_strict : (s : List ℕ) (c : Color) → is_shaped s ≡ false → from_str s ≡ Ok c → Strict s
 unfolding from_str
 word_strict s c e q =
     let p : (l : List Blank) × (r : List ℕ) × (s ≡ blanks l ++ r) × (is_space (get_or r 0 0) ≡ false) = split_blanks s in
     let u : marked_at p.1 0 ≡ false = sym (shaped_after p.0 p.1 p.3) ∙ (sym (ap is_shaped p.2) ∙ e) in
-    go (admit_text s) refl (parse_color_text s) refl (λ c i h. text_strict s p.0 p.1 p.2 p.3 u c i h)
+    go (admit_text s) refl (parse_color_text s) refl (λ y h. text_strict s p.0 p.1 p.2 p.3 u y h)
   where
-    go : (a : Admission) → admit_text s ≡ a → (y : ColorRead) → parse_color_text s ≡ y → ((c : Color) (i : Place) → parse_color_text s ≡ C.Value c i → Strict s) → Strict s
-    go (M.Refused x) a y h k = never_value (simp a at q)
-    go M.Admitted a (C.Refused x) h k = never_value (simp (a, h) at q)
-    go M.Admitted a (C.Value x i) h k = k x i h
+    go : (a : Result (Unit {0}) Refusal) → admit_text s ≡ a → (y : Result (Read Color) Fault) → parse_color_text s ≡ y → ((y : Read Color) → parse_color_text s ≡ Ok y → Strict s) → Strict s
+    go (Err x) a y h k = never_ok (simp a at q)
+    go (Ok u) a (Err x) h k = never_ok (simp (a, h) at q)
+    go (Ok u) a (Ok y) h k = k y h

@@ -5,5 +5,6 @@ pub mod Hexes
 pub mod Words
 pub mod Openings
 pub mod KeywordTexts
+pub mod Loose
 pub mod Stops
 pub mod Proved

@@ -7,7 +7,6 @@ use native.Mathlib.Omega.{arith}
 use borrow.Author.Tests.{eqb-true, eq-eqb}
 use lib.Dec.{eqb}
 use Rattle.text_bytes.specs.Bytes.{is_upper, is_lower}
-use Rattle.text_bytes.specs.Flow.{bind}
 use Rattle.text_bytes.specs.Words.{lower_of}
 use Rattle.text_bytes.proofs.Ranges.{and_first, and_second}
 use Rattle.text_bytes.proofs.Ranges.{either, within_ge, within_low}
@@ -109,11 +108,11 @@ in_spaces {X} {P} text u =
 
 -- a byte that is no letter
 byte_takes : (c : ℕ) → lower_of c ≡ c → Takes (A.Byte c) (c ∷ [])
-unfolding act bind
+unfolding act
 byte_takes c e = let f : act (A.Byte c) c ≡ D.Next = simp (eq-eqb (lower_of c) c e) in last f
 
 pub taken_byte : (c : ℕ) (l : List ℕ) → Takes (A.Byte c) l → (b : ℕ) × (l ≡ b ∷ []) × (lower_of b ≡ c)
-unfolding act bind ends
+unfolding act ends
 taken_byte c [] (stop e) = never e
 taken_byte c (b ∷ l) (last e) = (b, refl, eqb-true (lower_of b) c (either (eqb (lower_of b) c) (λ f. f) (λ f. never (let q : D.Lost ≡ D.Next = rw f at e in let z : false ≡ true = cc in z))))
 taken_byte c (b ∷ l) (more {x} e t) =
@@ -135,7 +134,7 @@ byte c h =
 
 -- a name in letters of either case
 name_parts : {n : List ℕ} (w : Spelling n) → every is_lower n ≡ true → Parts (word n) (spelling w)
-unfolding spelling act bind
+unfolding spelling act
 name_parts done e = refl
 name_parts (small c {n} w) e =
     record { first = c ∷ []; rest = spelling w; is = refl; takes = byte_takes c (lower_small c (and_first (is_lower c) (every is_lower n) e)); others = name_parts w (and_second (is_lower c) (every is_lower n) e) }

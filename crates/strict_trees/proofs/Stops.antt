@@ -5,30 +5,19 @@ use mathlib.Core.List.{List, [], ◌∷◌, ◌++◌}
 use mathlib.Core.Logic.{inl, inr}
 use mathlib.Core.Path.{◌≡◌, refl, sym, ap, ◌∙◌}
 use native.Mathlib.Omega.{arith}
-use lib.Dec.{leb, eqb}
 use lib.ListN.{length, take}
-use Rattle.utf8.specs.Characters.{utf8_of}
-use Rattle.text_bytes.specs.Flow.{bind}
-use Rattle.stream.specs.Refusals.{number_of, bare_refusal, refusal_of, ill_formed, admit_utf8, admit_text}
-use Rattle.stream.specs.declared.Trouble.{Trouble}
-use Rattle.stream.specs.declared.Trouble.TheVariants as T
-use Rattle.utf8.specs.declared.Utf8.{Utf8}
-use Rattle.utf8.specs.declared.Utf8.TheVariants as U
+use Rattle.std.specs.Prelude.{Result, Ok, Err}
 use Rattle.stream.specs.declared.Refusal.{Refusal}
+use Rattle.stream.specs.declared.Reason.TheVariants as R
+use Rattle.text_bytes.specs.declared.Place.{Place}
 use Rattle.text_bytes.specs.Bytes.{within}
 use Rattle.text_bytes.proofs.Ranges.{and_first}
 use Rattle.text_bytes.proofs.Ranges.{either}
 use Rattle.color.specs.Answer.{from_str}
-use Rattle.color.specs.Color.{parse_color_text}
-use Rattle.color.specs.declared.ColorRead.{ColorRead}
-use Rattle.color.specs.declared.ColorRead.TheVariants as C
 use Rattle.color.specs.declared.Color.{Color}
-use Rattle.color.specs.declared.ColorAnswer.{ColorAnswer}
-use Rattle.color.specs.declared.ColorAnswer.TheVariants as A
 use Rattle.shapes.specs.declared.Atom.{Atom}
-use Rattle.strict.specs.Answer.{furthest, nowhere, shapes, marked, is_shaped, strict_of, strict_from_str}
-use Rattle.shapes.proofs.Fair.{never}
-use Rattle.strict.proofs.Answers.{never_value}
+use Rattle.strict.specs.Answer.{furthest, shapes, marked, is_shaped, strict_of, strict_from_str}
+use Rattle.shapes.proofs.Fair.{never, never_ok}
 use Rattle.strict.proofs.Shaped.{three_well, six_well, rgb_whole_well, rgb_percent_well, rgba_whole_well, rgba_percent_well, hsl_well, hsla_well}
 use Rattle.strict.proofs.Furthest.{Some, All, AllWell, Walks, GoesOn, Stuck, some_whole, all_stuck, some_on}
 use Rattle.standards.specs.CssValues3.{Blank, blanks}
@@ -43,19 +32,21 @@ use Rattle.strict_trees.specs.HouseRules.{Stops}
 use Rattle.strict_trees.proofs.Forms.{tree_walks, rgb_whole_tree, rgb_percent_tree, hsl_tree, rgba_whole_tree, rgba_percent_tree, hsla_tree}
 use Rattle.strict_trees.proofs.Words.{keyword_unshaped, name_unmarked}
 use Rattle.strict_trees.proofs.Openings.{still_shaped}
+use Rattle.strict_trees.proofs.Loose.{old_other}
 use Rattle.strict_trees.proofs.Hexes.{three_walks, six_walks, three_tree, six_tree}
 
 -- THEOREM. A colour that is answered is the old reading's.
-pub same_channels : (s : List ℕ) (c : Color) → strict_from_str s ≡ A.Value c → from_str s ≡ A.Value c
-unfolding strict_from_str bind
-same_channels s c e = go (from_str s) refl
+pub same_channels : (s : List ℕ) (c : Color) → strict_from_str s ≡ Ok c → from_str s ≡ Ok c
+unfolding strict_from_str
+same_channels s c e = go (from_str s) refl (strict_of s) refl
   where
-    go : (r : ColorAnswer) → from_str s ≡ r → from_str s ≡ A.Value c
-    go (A.Refused x) q = never_value (rw q at e)
-    go (A.Value x) q = either (strict_of s).whole (λ w. q ∙ rw (q, w) at e) (λ w. never_value (rw (q, w) at e))
+    go : (r : Result Color Refusal) → from_str s ≡ r → (w : Result (Unit {0}) Place) → strict_of s ≡ w → from_str s ≡ Ok c
+    go (Err x) q w k = never_ok (rw q at e)
+    go (Ok x) q (Ok u) k = q ∙ rw (q, k) at e
+    go (Ok x) q (Err p) k = never_ok (rw (q, k) at e)
 
 -- THEOREM. What the old reading refuses is refused by it, whole.
-pub old_refusal : (s : List ℕ) (x : Refusal) → from_str s ≡ A.Refused x → strict_from_str s ≡ A.Refused x
+pub old_refusal : (s : List ℕ) (x : Refusal) → from_str s ≡ Err x → strict_from_str s ≡ Err x
 unfolding strict_from_str
 old_refusal s x q = rw q refl
 
@@ -104,7 +95,7 @@ some_map s n (x ∷ xs) (inr e) = let r : (t : List ℕ) × Some (Walks (take n 
 
 none_of : (s : List ℕ) (n : ℕ) (t : List ℕ) (xs : List (List Atom)) → All (Stuck s n) xs → Some (Walks (take (suc n) s ++ t)) xs → ⊥
 none_of s n t [] h e = e
-none_of s n t (x ∷ xs) h (inl e) = never (sym (h.0 t) ∙ e)
+none_of s n t (x ∷ xs) h (inl e) = h.0 t e
 none_of s n t (x ∷ xs) h (inr e) = none_of s n t xs h.1 e
 
 -- a keyword's text does not begin as a shape does
@@ -116,100 +107,62 @@ word_unshaped (transparent w) e l m = keyword_unshaped l m (spelling w) (rw (spe
 word_unshaped (function t d) e l m = never e
 
 -- how far the eight go: so far a strict text can go on, and one byte further no hex colour and no function can
-module _ (s : List ℕ) where
-  pub far_viable : Viable (take (furthest shapes s nowhere).far.0 s)
+module _ (s : List ℕ) (p : Place) (k : furthest shapes s 0 ≡ Err p) where
+  pub far_viable : Viable (take p.0 s)
   far_viable =
-      let n = (furthest shapes s nowhere).far.0 in
-      let r : (t : List ℕ) × Some (Walks (take n s ++ t)) shapes = some_map s n shapes (some_on s _ _ shapes_well) in
-      record { rest = r.0; strict = some_strict (take n s ++ r.0) r.1 }
+      let r : (t : List ℕ) × Some (Walks (take p.0 s ++ t)) shapes = some_map s p.0 shapes (some_on s _ _ p shapes_well k) in
+      record { rest = r.0; strict = some_strict (take p.0 s ++ r.0) r.1 }
 
-  pub far_shut : is_shaped s ≡ true → (furthest shapes s nowhere).far.0 < length s → Viable (take (suc (furthest shapes s nowhere).far.0) s) → ⊥
-  far_shut f k p =
-      let n = (furthest shapes s nowhere).far.0 in
-      let v : Strict (take (suc n) s ++ p.rest) = p.strict in
-      either (is_word v.tree)
-      (λ e. never (sym (word_unshaped v.tree e v.before v.after) ∙ (ap is_shaped (sym v.is) ∙ still_shaped s f (suc n) (omega arith) p.rest)))
-      (λ e. none_of s n p.rest shapes (all_stuck s nowhere shapes shapes_well n (omega arith) k)
-      (rw (← v.is) at (walks_some v.tree v.house e v.before v.after)))
+  pub far_shut : is_shaped s ≡ true → p.0 < length s → Viable (take (suc p.0) s) → ⊥
+  far_shut f h v =
+      let w : Strict (take (suc p.0) s ++ v.rest) = v.strict in
+      either (is_word w.tree)
+      (λ e. never (sym (word_unshaped w.tree e w.before w.after) ∙ (ap is_shaped (sym w.is) ∙ still_shaped s f p k (suc p.0) (omega arith) v.rest)))
+      (λ e. none_of s p.0 v.rest shapes (all_stuck s shapes p shapes_well k p.0 (omega arith) h) (rw (← w.is) at (walks_some w.tree w.house e w.before w.after)))
 
-strict_whole : (t : Colour) → IsStrict t → (l m : List Blank) → (strict_of (blanks l ++ (colour t ++ blanks m))).whole ≡ true
+strict_whole : (t : Colour) → IsStrict t → (l m : List Blank) → strict_of (blanks l ++ (colour t ++ blanks m)) ≡ Ok tt
 unfolding strict_of
 strict_whole t p l m =
     let s = blanks l ++ (colour t ++ blanks m) in
     either (is_word t) (λ e. rw (word_unshaped t e l m) refl)
-    (λ e. let w : (furthest shapes s nowhere).whole ≡ true = some_whole s nowhere shapes (walks_some t p e l m) in either (is_shaped s) (λ f. rw (f, w) refl) (λ f. rw f refl))
+    (λ e. let w : furthest shapes s 0 ≡ Ok tt = some_whole s shapes 0 (walks_some t p e l m) in either (is_shaped s) (λ f. rw (f, w) refl) (λ f. rw f refl))
 
 -- THEOREM. The strict reading refuses no strict text: it answers its channels.
 pub accepts : (l m : List Blank) (t : Colour) → IsStrict t → length (blanks l ++ (colour t ++ blanks m)) ≤ 4096
-    → strict_from_str (blanks l ++ (colour t ++ blanks m)) ≡ A.Value (channels t)
-unfolding strict_from_str bind
+    → strict_from_str (blanks l ++ (colour t ++ blanks m)) ≡ Ok (channels t)
+unfolding strict_from_str
 accepts l m t p h = rw (colour_whole l m t h, strict_whole t p l m) refl
 
-same_refusal : {x y : Refusal} → A.Refused x ≡ A.Refused y → y ≡ x
+same_refusal : {x y : Refusal} → ◌≡◌ {A = Result Color Refusal} (Err x) (Err y) → y ≡ x
 same_refusal q = cc
 
-shaped_of : (s : List ℕ) → is_shaped s ≡ true → (strict_of s).whole ≡ (furthest shapes s nowhere).whole
-unfolding strict_of
-shaped_of s f = rw f refl
-
 -- THEOREM. What the old reading accepts and the strict one refuses is refused by 18, where no strict text can go on; nor is the text strict.
-pub stops : (s : List ℕ) (c : Color) (e : Refusal) → from_str s ≡ A.Value c → strict_from_str s ≡ A.Refused e → Stops s e × (Strict s → ⊥)
-unfolding strict_from_str bind strict_of
-stops s c e q r =
-    either (is_shaped s)
-    (λ f. either (furthest shapes s nowhere).whole (λ w. never_value (sym (rw (q, f, w) at r)))
-    (λ w. (
-      record {
-        at = (furthest shapes s nowhere).far.0;
-        is = same_refusal (rw (q, f, w) at r);
-        viable = far_viable s;
-        shut = far_shut s f;
-      },
-      λ v. never (sym w ∙ (sym (shaped_of s f) ∙ (ap (λ (u : List ℕ). (strict_of u).whole) v.is ∙ strict_whole v.tree v.house v.before v.after))),
-    )))
-    (λ f. never_value (sym (rw (q, f) at r)))
-
--- the old reading has no 18
-other_number : (t : Trouble) → eqb (number_of t) 18 ≡ false
-unfolding number_of
-other_number T.UnexpectedEndOfStream = refl
-other_number T.InvalidValue = refl
-other_number T.UnexpectedData = refl
-other_number T.InvalidChar = refl
-other_number T.InvalidString = refl
-other_number T.WrongByte = refl
-other_number T.TextEnded = refl
-other_number T.WrongForm = refl
-other_number T.TooLarge = refl
-other_number T.ScaleOutOfRange = refl
-other_number T.PercentageValue = refl
-other_number T.NegativeValue = refl
-other_number T.InvalidAngle = refl
-other_number T.MissingDropShadowOffset = refl
-other_number T.InvalidUrl = refl
-
-old_other : (s : List ℕ) (e : Refusal) → from_str s ≡ A.Refused e → eqb e.number 18 ≡ false
-unfolding from_str admit_text admit_utf8 refusal_of
-old_other s e q = edge (leb (length s) 4096) refl (utf8_of s) refl (parse_color_text s) refl
+pub stops : (s : List ℕ) (c : Color) (e : Refusal) → from_str s ≡ Ok c → strict_from_str s ≡ Err e → Stops s e × (Strict s → ⊥)
+unfolding strict_from_str strict_of
+stops s c e q r = go (strict_of s) refl
   where
-    edge : (t : Bool) → leb (length s) 4096 ≡ t → (u : Utf8) → utf8_of s ≡ u → (r : ColorRead) → parse_color_text s ≡ r → eqb e.number 18 ≡ false
-    edge false f u g r h = let z : e ≡ bare_refusal 1 = same_refusal (rw f at q) in rw z (refl)
-    edge true f (U.IllFormed p) g r h = let z : e ≡ ill_formed p = same_refusal (rw (f, g) at q) in rw z (refl)
-    edge true f U.WellFormed g (C.Refused x) h = let z : e ≡ refusal_of s x = same_refusal (rw (f, g, h) at q) in rw z (other_number x.trouble)
-    edge true f U.WellFormed g (C.Value c p) h = never_value (sym (rw (f, g, h) at q))
+    go : (x : Result (Unit {0}) Place) → strict_of s ≡ x → Stops s e × (Strict s → ⊥)
+    go (Ok u) w = never_ok (sym (rw (q, w) at r))
+    go (Err p) w =
+        either (is_shaped s)
+        (λ f. let k : furthest shapes s 0 ≡ Err p = rw f at w in (
+          record { at = p.0; is = same_refusal (rw (q, w) at r); viable = far_viable s p k; shut = far_shut s p k f },
+          λ v. never_ok (sym w ∙ (ap strict_of v.is ∙ strict_whole v.tree v.house v.before v.after)),
+        ))
+        (λ f. never_ok (sym (rw f at w)))
 
 -- THEOREM. A refusal by another number is the old reading's, whole.
-pub old_number : (s : List ℕ) (e : Refusal) → strict_from_str s ≡ A.Refused e → (e.number ≡ 18 → ⊥) → from_str s ≡ A.Refused e
+pub old_number : (s : List ℕ) (e : Refusal) → strict_from_str s ≡ Err e → (e.reason ≡ R.NotStrict → ⊥) → from_str s ≡ Err e
 old_number s e r n = go (from_str s) refl
   where
-    go : (x : ColorAnswer) → from_str s ≡ x → from_str s ≡ A.Refused e
-    go (A.Refused x) q = q ∙ (sym (old_refusal s x q) ∙ r)
-    go (A.Value c) q = let v : Stops s e = (stops s c e q r).0 in absurd (n (ap (λ (y : Refusal). y.number) v.is))
+    go : (x : Result Color Refusal) → from_str s ≡ x → from_str s ≡ Err e
+    go (Err x) q = q ∙ (sym (old_refusal s x q) ∙ r)
+    go (Ok c) q = let v : Stops s e = (stops s c e q r).0 in absurd (n (ap (λ (y : Refusal). y.reason) v.is))
 
 -- THEOREM. 18 stops where no strict text can go on.
-pub stops_at : (s : List ℕ) (e : Refusal) → strict_from_str s ≡ A.Refused e → e.number ≡ 18 → Stops s e
+pub stops_at : (s : List ℕ) (e : Refusal) → strict_from_str s ≡ Err e → e.reason ≡ R.NotStrict → Stops s e
 stops_at s e r n = go (from_str s) refl
   where
-    go : (x : ColorAnswer) → from_str s ≡ x → Stops s e
-    go (A.Value c) q = (stops s c e q r).0
-    go (A.Refused x) q = let z : e ≡ x = same_refusal (sym (old_refusal s x q) ∙ r) in never (sym (old_other s x q) ∙ (let m : x.number ≡ 18 = rw z at n in rw m refl))
+    go : (x : Result Color Refusal) → from_str s ≡ x → Stops s e
+    go (Ok c) q = (stops s c e q r).0
+    go (Err x) q = let z : e ≡ x = same_refusal (sym (old_refusal s x q) ∙ r) in old_other s x q (rw z at n)

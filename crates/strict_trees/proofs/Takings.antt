@@ -8,7 +8,6 @@ use borrow.Author.Tests.{lt-ltb, ltb-true, eqb-true, ne_eqb}
 use lib.Dec.{eqb, ltb}
 use lib.ListN.{length}
 use Rattle.text_bytes.specs.Bytes.{within, is_sign, is_digit, is_space}
-use Rattle.text_bytes.specs.Flow.{bind}
 use Rattle.text_bytes.proofs.Ranges.{either, within_ge, within_le, and_false}
 use Rattle.numbers.specs.Digits.{cap}
 use Rattle.shapes.specs.Walk.{push, signed, digits, dot, fraction, act, ends}
@@ -103,15 +102,15 @@ pushed m b e f =
 
 module _ (m : ℕ) (d : Digit) (h : m * 10 + d.is < cap) where
   digits_act : (dots : Bool) → act (A.Digits dots m) (numeral d) ≡ D.Stay (A.Digits dots (m * 10 + d.is))
-  unfolding act digits bind
+  unfolding act digits
   digits_act dots = simp (numeral_is d, push_digit m d h, lt-ltb (m * 10 + d.is) cap h)
 
   dot_act : act (A.Dot m) (numeral d) ≡ D.Stay (A.Fraction (m * 10 + d.is) 1)
-  unfolding act dot bind
+  unfolding act dot
   dot_act = simp (numeral_is d, push_digit m d h, lt-ltb (m * 10 + d.is) cap h)
 
   fraction_act : (k : ℕ) → k < 22 → act (A.Fraction m k) (numeral d) ≡ D.Stay (A.Fraction (m * 10 + d.is) (k + 1))
-  unfolding act fraction bind
+  unfolding act fraction
   fraction_act k g = simp (numeral_is d, push_digit m d h, lt-ltb (m * 10 + d.is) cap h, lt-ltb k 22 g)
 
 fraction_take : (fs : List Digit) (m k : ℕ) → spelt m fs < cap → k + length fs ≤ 22 → Takes (A.Fraction m k) (numerals fs)
@@ -132,7 +131,7 @@ digits_take dots (d ∷ ds) m h = more (digits_act m d (omega (arith, spelt_more
 -- digits, a dot, digits
 dotted_take : (ds : List Digit) (f : Digit) (fs : List Digit) (m : ℕ) → spelt (spelt m ds) (f ∷ fs) < cap → suc (length fs) ≤ 22
     → Takes (A.Digits true m) (numerals ds ++ (46 ∷ numerals (f ∷ fs)))
-unfolding spelt act digits bind within
+unfolding spelt act digits within
 dotted_take [] f fs m h g =
     let k : m * 10 < cap = omega (arith, spelt_more (m * 10 + f.is) fs) in
     let p : push m 48 ≡ m * 10 = omega arith in
@@ -184,19 +183,19 @@ record Fractions (m k : ℕ) (l : List ℕ) : Type 0 where
   few : k + length those ≤ 22
 
 take_fraction : (l : List ℕ) (m k : ℕ) → m < cap → k ≤ 22 → Takes (A.Fraction m k) l → Fractions m k l
-unfolding spelt act fraction bind
+unfolding spelt act fraction
 take_fraction [] m k h g t = record { those = []; is = refl; low = h; few = omega arith }
 take_fraction (b ∷ l) m k h g (last e) = never_last (A.Fraction m k) b numeric_single e
 take_fraction (b ∷ l) m k h g (more {x} e t) =
     either (is_digit b)
-    (λ p. either (ltb (push m b) cap)
-    (λ q. either (ltb k 22)
-    (λ r. let y : x ≡ A.Fraction (push m b) (k + 1) = stays (rw (p, q, r) at e) in
+    (λ p. either (ltb k 22)
+    (λ r. either (ltb (push m b) cap)
+    (λ q. let y : x ≡ A.Fraction (push m b) (k + 1) = stays (rw (p, r, q) at e) in
     let u : Pushed m b (push m b) = pushed m b p q in
     let v : Fractions (push m b) (k + 1) l = take_fraction l (push m b) (k + 1) u.low (omega (arith, ltb-true k 22 r)) (rw y at t) in
     record { those = u.digit ∷ v.those; is = cc (u.is, v.is); low = spelt_step m (push m b) u.digit v.those u.sum v.low; few = omega (arith, v.few) })
-    (λ r. never_lost (rw (p, q, r) at e)))
-    (λ q. never_lost (rw (p, q) at e)))
+    (λ q. never_lost (rw (p, r, q) at e)))
+    (λ r. never_lost (rw (p, r) at e)))
     (λ p. never_pass (rw p at e))
 
 record Dotted (m : ℕ) (l : List ℕ) : Type 0 where
@@ -207,7 +206,7 @@ record Dotted (m : ℕ) (l : List ℕ) : Type 0 where
   few : suc (length those) ≤ 22
 
 take_dot : (l : List ℕ) (m : ℕ) → Takes (A.Dot m) l → Dotted m l
-unfolding spelt act dot bind ends
+unfolding spelt act dot ends
 take_dot [] m (stop e) = never e
 take_dot (b ∷ l) m (last e) = never_last (A.Dot m) b numeric_single e
 take_dot (b ∷ l) m (more {x} e t) =
@@ -231,7 +230,7 @@ tail_more dots m b l u (no_dot ds e h) = no_dot (u.digit ∷ ds) (cc (u.is, e)) 
 tail_more dots m b l u (with_dot q ds f fs e h g) = with_dot q (u.digit ∷ ds) f fs (cc (u.is, e)) (rw (← u.sum) h) g
 
 take_digits : (dots : Bool) (l : List ℕ) (m : ℕ) → m < cap → Takes (A.Digits dots m) l → Tail dots m l
-unfolding spelt act digits bind
+unfolding spelt act digits
 take_digits dots [] m h t = no_dot [] refl h
 take_digits dots (b ∷ l) m h (last e) = never_last (A.Digits dots m) b numeric_single e
 take_digits dots (b ∷ l) m h (more {x} e t) =

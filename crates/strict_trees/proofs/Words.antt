@@ -10,7 +10,6 @@ use lib.Dec.{ltb, leb}
 use lib.ListN.{length, get_or, length-map}
 use lib.Seq.{get_or-append-add}
 use Rattle.text_bytes.specs.Bytes.{is_space, is_upper}
-use Rattle.text_bytes.specs.Flow.{bind}
 use Rattle.text_bytes.specs.Scan.{run, scan}
 use Rattle.text_bytes.specs.Words.{lower_of, lowered}
 use Rattle.text_bytes.proofs.Ranges.{and_first, and_second}
@@ -26,7 +25,7 @@ use Rattle.standards.proofs.Runs.{blanks_run, no_space}
 
 -- after white space
 pub shaped_after : (l : List Blank) (r : List ℕ) → is_space (get_or r 0 0) ≡ false → is_shaped (blanks l ++ r) ≡ marked_at r 0
-unfolding is_shaped marked_at bind scan
+unfolding is_shaped marked_at scan
 shaped_after l r e =
     let n : 0 + run is_space (blanks l ++ r) ≡ length (blanks l) + 0 = omega (arith, blanks_run l r e, length-map l blank) in
     rw n (simp (add_assoc, get_or-append-add))
@@ -49,7 +48,7 @@ module _ (m : List ℕ) where
       (and_first (leb 3 (length (lowered (a ∷ x))) && ltb 64 (lower_of a)) (not (marked (lower_of a) (get_or (lowered (a ∷ x)) 1 0) (get_or (lowered (a ∷ x)) 2 0))) e))
 
   pub word_unmarked : (x : List ℕ) → unmarked (lowered x) ≡ true → marked_at (x ++ m) 0 ≡ false
-  unfolding marked_at bind
+  unfolding marked_at
   word_unmarked [] e = never e
   word_unmarked (a ∷ []) e = never e
   word_unmarked (a ∷ b ∷ []) e = never e

@@ -64,6 +64,6 @@ bind_is x a r k q h = rw (← q) h
 
 pub ruleset flow = (bind_is, picks)
 
--- an answer, and what is made of it, such as document 01's record
+-- an answer, and what is made of it, such as its record
 pub also : {A B : Type 0} (f : A → B) {r a : A} → r ≡ a → (r ≡ a) × (f r ≡ f a)
 also f h = (h, ap f h)

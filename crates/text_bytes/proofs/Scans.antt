@@ -12,37 +12,38 @@ use lib.Seq.{drop-cons, drop-drop, drop-append-add, get_or-drop}
 use Rattle.text_bytes.specs.Scan.{run, scan}
 use Rattle.text_bytes.proofs.Ranges.{and_true, either}
 
--- The invariant of every scanning loop: from i on the scan comes to what it comes to from `at` on.
+-- One turn of a loop that looks at one byte: the three laws that prove every scan. A byte of the class: one further
+pub scan_on : (p : ℕ → Bool) (s : List ℕ) (i : ℕ) → i < length s → p (get_or s i 0) ≡ true → scan p s i ≡ scan p s (i + 1)
+unfolding scan run
+scan_on p s i h f = simp (drop-cons s i 0 h, f, add-one) (omega arith)
+
+-- any other: here
+pub scan_off : (p : ℕ → Bool) (s : List ℕ) (i : ℕ) → i < length s → p (get_or s i 0) ≡ false → scan p s i ≡ i
+unfolding scan run
+scan_off p s i h f = simp (drop-cons s i 0 h, f) (omega arith)
+
+-- the end: here
+pub scan_past : (p : ℕ → Bool) (s : List ℕ) (i : ℕ) → length s ≤ i → scan p s i ≡ i
+unfolding scan run
+scan_past p s i h = simp (drop_of_length-le s h) (omega arith)
+
+-- The same for a loop that scans and does more: from i on the scan comes to what it comes to from `at` on.
 pub record Scanning (p : ℕ → Bool) (s : List ℕ) (at i : ℕ) : Type 0 where
   pub same : scan p s i ≡ scan p s at
 
 pub scan_start : (p : ℕ → Bool) (s : List ℕ) (at : ℕ) → Scanning p s at at
 scan_start p s at = record { same = refl }
 
--- The laws of a loop that looks at one byte a turn: r is what the test of byte i answered.
+-- r is what the test of byte i answered
 module _ {p : ℕ → Bool} {s : List ℕ} {at i : ℕ} {r : Bool} (v : Scanning p s at i) (q : r ≡ p (get_or s i 0)) where
-  -- a byte of the class: one further
   pub scan_go : r ≡ true → i < length s → Scanning p s at (i + 1)
-  unfolding scan run
-  scan_go e h =
-      let f : p (get_or s i 0) ≡ true = cc in
-      let g : scan p s i ≡ scan p s (i + 1) = simp (drop-cons s i 0 h, f, add-one) (omega arith) in
-      record { same = cc }
+  scan_go e h = record { same = sym (scan_on p s i h (sym q ∙ e)) ∙ v.same }
 
-  -- any other: here
   pub scan_stop : r ≡ false → i < length s → i ≡ scan p s at
-  unfolding scan run
-  scan_stop e h =
-      let f : p (get_or s i 0) ≡ false = cc in
-      let g : scan p s i ≡ i = simp (drop-cons s i 0 h, f) (omega arith) in
-      cc
+  scan_stop e h = sym (scan_off p s i h (sym q ∙ e)) ∙ v.same
 
--- the end: here
 pub scan_end : {p : ℕ → Bool} {s : List ℕ} {at i : ℕ} → Scanning p s at i → length s ≤ i → i ≡ scan p s at
-unfolding scan run
-scan_end {p} {s} {at} {i} v h =
-    let g : scan p s i ≡ i = simp (drop_of_length-le s h) (omega arith) in
-    cc
+scan_end {p} {s} {at} {i} v h = sym (scan_past p s i h) ∙ v.same
 
 pub ruleset scanned = (scan_start, scan_go, scan_stop, scan_end)
 

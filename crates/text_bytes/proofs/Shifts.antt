@@ -41,6 +41,10 @@ eqb_shift k a b = go (eqb a b) refl
 pub sub_shift : (k a b : ℕ) → k + a - (k + b) ≡ a - b
 sub_shift k a b = omega arith
 
+-- two tests with one answer, where the first arm is the same
+pub same_else : {A : Type 0} (t : Bool) (x y z : A) → y ≡ z → cond t x y ≡ cond t x z
+same_else t x y z e = rw e refl
+
 pub ruleset shifts = (get_or-append-add, add_assoc, scan_shift, drop-append-add, length-append, ltb_shift, leb_shift, sub_shift)
 
 module _ (a b : List ℕ) where

@@ -1,41 +1,19 @@
 -- The laws of a word that is looked for at a place.
-use Prim.Native.Nat.{ℕ, zero, suc, ◌+◌, ◌^◌, ◌≤◌, ◌<◌}
+use Prim.Native.Nat.{ℕ, suc, ◌+◌, ◌-◌, ◌^◌, ◌≤◌, ◌<◌}
 use mathlib.Core.Bool.{Bool, true, false, ◌&&◌, ◌||◌}
 use mathlib.Core.List.{List, [], ◌∷◌, ◌++◌}
 use mathlib.Core.Path.{◌≡◌, refl, sym, ap, ◌∙◌}
-use native.Mathlib.Numerals.{add-one}
 use native.Mathlib.Omega.{arith}
-use borrow.Author.Tests.{eqb-true, eq-eqb, ne_eqb, lt-ltb, le-ltb, ltb-true}
+use borrow.Author.Tests.{eqb-true, eqb-false, eq-eqb, ne_eqb, lt-ltb, le-ltb, ltb-true}
 use lib.Dec.{eqb, ltb}
-use lib.ListN.{length, get_or, drop, length-drop, drop_of_length-le, length-map}
-use lib.Seq.{drop-cons}
+use lib.ListN.{length, get_or, take, drop, length-drop, length-map}
+use lib.Pointwise.{pointwise}
+use Rattle.std.specs.List.{list_all, zip}
 use mir.Syntax.{w8, w64}
 use mir.Val.{Fits}
 use Rattle.text_bytes.specs.Words.{starts_with, is_curr_byte_eq, same, lower_of, lowered}
 use Rattle.text_bytes.specs.Bytes.{is_digit, is_upper, is_lower, is_space, is_ascii_ident}
 use Rattle.text_bytes.proofs.Ranges.{within_ge, within_le, and_false, and_first, and_second, either}
-
--- the invariant of the loop: the k bytes passed are alike, so that the rest decides
-pub record Matching (w s : List ℕ) (k : ℕ) : Type 0 where
-  pub same : starts_with (drop k w) (drop k s) ≡ starts_with w s
-
-pub match_start : (w s : List ℕ) → Matching w s 0
-match_start w s = record { same = refl }
-
-module _ {w s : List ℕ} {k : ℕ} (v : Matching w s k) where
-  pub match_all : length w ≤ k → true ≡ starts_with w s
-  unfolding starts_with
-  match_all h = simp (drop_of_length-le w h) at v.same
-
-  -- the text is no shorter than the word, so that byte k of the word has one to stand against
-  module _ (h : k < length w) (l : length w ≤ length s) where
-    pub match_go : get_or s k 0 ≡ get_or w k 0 → Matching w s (k + 1)
-    unfolding starts_with
-    match_go e = record { same = simp add-one (simp (drop-cons w k 0 h, drop-cons s k 0 (omega arith), eq-eqb _ _ e) at v.same) }
-
-    pub match_other : (get_or s k 0 ≡ get_or w k 0 → ⊥) → false ≡ starts_with w s
-    unfolding starts_with
-    match_other e = simp (drop-cons w k 0 h, drop-cons s k 0 (omega arith), ne_eqb _ _ e) at v.same
 
 starts_le : (w s : List ℕ) → starts_with w s ≡ true → length w ≤ length s
 unfolding starts_with
@@ -47,11 +25,15 @@ starts_le (w ∷ ws) (x ∷ xs) e = go (eqb x w) (starts_le ws xs) e
     go true ih h = omega (arith, ih h)
     go false ih h = let z : ◌≡◌ {A = ℕ} 0 1 = cc in absurd (omega arith)
 
--- a word longer than the text is not there
-pub match_short : (w s : List ℕ) → length s < length w → false ≡ starts_with w s
-match_short w s h = either (starts_with w s) (λ e. absurd (omega (arith, starts_le w s e))) (λ e. sym e)
+eqb_swap : (a b : ℕ) → eqb a b ≡ eqb b a
+eqb_swap a b = either (eqb b a) (λ e. rw e (eq-eqb a b (sym (eqb-true b a e)))) (λ e. rw e (ne_eqb a b (λ q. eqb-false b a e (sym q))))
 
-pub ruleset matched = (match_start, match_go, match_other, match_short, match_all)
+-- what std's `starts_with` says
+pub starts_std : (w s : List ℕ) → pointwise eqb w (take (length w) s) ≡ starts_with w s
+unfolding starts_with
+starts_std [] s = refl
+starts_std (w ∷ ws) [] = refl
+starts_std (w ∷ ws) (x ∷ xs) = rw (starts_std ws xs, eqb_swap w x) refl
 
 -- a word that is there ends inside: the sum with its length fits
 pub word_inside : (w : ℕ) (ws s : List ℕ) (i : ℕ) (r : Bool) → r ≡ true → r ≡ starts_with (w ∷ ws) (drop i s) → i + suc (length ws) ≤ length s
@@ -87,10 +69,10 @@ module _ (s w : List ℕ) where
   pub lower_begins : {r : Bool} → length s ≡ length w → r ≡ starts_with w (lowered s) → r ≡ same (lowered s) w
   lower_begins e q = q ∙ same_starts (lowered s) w (simp length-map e)
 
-  pub lower_other : (length s ≡ length w → ⊥) → false ≡ same (lowered s) w
-  lower_other n = sym (same_length (lowered s) w (λ e. n (simp length-map at e)))
+  pub lower_unlike : (length s ≡ length w → ⊥) → false ≡ same (lowered s) w
+  lower_unlike n = sym (same_length (lowered s) w (λ e. n (simp length-map at e)))
 
-pub ruleset alike = (same_begins, same_other, lower_begins, lower_other)
+pub ruleset same_words = (same_begins, same_other, lower_begins, lower_unlike)
 
 pub same_refl : (w : List ℕ) → same w w ≡ true
 unfolding same
@@ -121,36 +103,29 @@ lower_fits b q e = let f : true ≡ is_upper b = cc in record { fits = omega (ar
 
 pub ruleset lowers = (lower_up, lower_kept, lower_fits)
 
-lower_at : (s : List ℕ) (k : ℕ) → k < length s → get_or (lowered s) k 0 ≡ lower_of (get_or s k 0)
-lower_at [] k h = absurd (omega arith)
-lower_at (x ∷ xs) zero h = refl
-lower_at (x ∷ xs) (suc k) h = lower_at xs k (omega arith)
+-- a byte of a text and one of a word, letter case ignored
+abbrev pub alike : ℕ × ℕ → Bool
+alike p = eqb (lower_of p.0) p.1
 
--- the same loop over the text in lower case: b is the byte that was lowered
-pub record Lowering (w s : List ℕ) (k : ℕ) : Type 0 where
-  pub alike : Matching w (lowered s) k
+-- of a text that is as long as the word, byte by byte
+pub zip_lowered : (s w : List ℕ) → length s ≡ length w → list_all alike (zip s w) ≡ same (lowered s) w
+unfolding same
+zip_lowered [] [] e = refl
+zip_lowered [] (y ∷ ys) e = absurd (omega arith)
+zip_lowered (x ∷ xs) [] e = absurd (omega arith)
+zip_lowered (x ∷ xs) (y ∷ ys) e = rw (zip_lowered xs ys (omega arith)) refl
 
-pub lower_start : (w s : List ℕ) → Lowering w s 0
-lower_start w s = record { alike = match_start w (lowered s) }
-
-module _ {w s : List ℕ} {k : ℕ} (v : Lowering w s k) where
-  pub lower_all : length w ≤ k → true ≡ starts_with w (lowered s)
-  lower_all h = match_all v.alike h
-
-  module _ (h : k < length w) (l : length w ≤ length s) {b : ℕ} (q : b ≡ lower_of (get_or s k 0)) where
-    pub lower_go : b ≡ get_or w k 0 → Lowering w s (k + 1)
-    lower_go e = record { alike = match_go v.alike h (simp length-map l) (lower_at s k (omega arith) ∙ sym q ∙ e) }
-
-    pub lower_differs : (b ≡ get_or w k 0 → ⊥) → false ≡ starts_with w (lowered s)
-    lower_differs n = match_other v.alike h (simp length-map l) (λ e. n (q ∙ sym (lower_at s k (omega arith)) ∙ e))
-
-pub lower_short : (w s : List ℕ) → length s < length w → false ≡ starts_with w (lowered s)
-lower_short w s h = match_short w (lowered s) (simp length-map h)
+pub lower_other : (s w : List ℕ) → (length s ≡ length w → ⊥) → same (lowered s) w ≡ false
+lower_other s w n = same_length (lowered s) w (λ e. n (simp length-map at e))
 
 pub word_add : (w s : List ℕ) (i : ℕ) {r : Bool} → r ≡ starts_with w (drop i s) → r ≡ true → i < length s → length s < 2 ^ 64 → Fits w64 (i + length w)
 word_add w s i q e h l =
     let f : starts_with w (drop i s) ≡ true = cc in
     omega (arith, starts_le w (drop i s) f, length-drop i s)
+
+-- the same for `grind`, which takes the first call that it sees: a word that is there is no longer than what is left
+pub word_ends : (w s : List ℕ) (i : ℕ) → starts_with w (drop i s) ≡ true → (starts_with w (drop i s) ≡ true) × (length w ≤ length s - i)
+word_ends w s i e = (e, omega (arith, starts_le w (drop i s) e, length-drop i s))
 
 module _ (s : List ℕ) (i c : ℕ) where
   pub curr_there : i < length s → eqb (get_or s i 0) c ≡ is_curr_byte_eq s i c
@@ -176,6 +151,10 @@ module _ (s : List ℕ) (i c : ℕ) where
 
   pub curr_next : {r : Bool} → r ≡ is_curr_byte_eq s i c → r ≡ true → length s < 2 ^ 64 → Fits w64 (i + 1)
   curr_next q e h = omega (arith, curr_inside q e)
+
+-- the same for `grind`
+pub curr_ends : (s : List ℕ) (i c : ℕ) → is_curr_byte_eq s i c ≡ true → (is_curr_byte_eq s i c ≡ true) × ((i < length s) × (get_or s i 0 ≡ c))
+curr_ends s i c e = (e, (curr_inside s i c refl e, curr_byte s i c refl e))
 
 pub ruleset current = (curr_there, curr_past)
 

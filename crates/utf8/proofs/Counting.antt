@@ -2,48 +2,49 @@
 use Prim.Native.Nat.{ℕ, zero, suc, ◌+◌, ◌-◌, ◌≤◌, ◌<◌}
 use mathlib.Core.Bool.{Bool, true, false, cond, not}
 use mathlib.Core.List.{List, [], ◌∷◌, ◌++◌}
-use mathlib.Core.Path.{◌≡◌, refl, sym, ap, ◌∙◌}
-use native.Mathlib.Numerals.{add-one}
+use mathlib.Core.Path.{◌≡◌, refl, ap}
 use native.Mathlib.Omega.{arith}
 use borrow.Author.Tests.{eq-eqb, ne_eqb}
 use lib.Dec.{eqb, eqb-suc-zero}
 use lib.ListN.{length, get_or, take, length-append}
-use lib.Seq.{take-suc, take_all, take-append-add, take-append-le, get_or-append-add}
+use lib.Seq.{take-append-add, take-append-le, get_or-append-add}
+use Rattle.std.specs.Prelude.{Ok, Err}
+use Rattle.std.specs.List.{filter}
 use Rattle.text_bytes.specs.Bytes.{within, is_tail}
 use Rattle.utf8.specs.Characters.{keeps, row_of, len_at, char_len, walk, utf8_of, firsts, count, characters, calc_char_pos_at, heads, manual_at, on_character}
-use Rattle.utf8.specs.declared.Utf8.TheVariants.{WellFormed, IllFormed}
 use Rattle.text_bytes.proofs.Shifts.{eqb_shift}
 use Rattle.utf8.proofs.Octets.{tails, char_inside, char_more, char_tails, char_first}
 use Rattle.text_bytes.proofs.Ranges.{and_first, and_second}
+use Rattle.text_bytes.specs.Moves.{place}
 
-firsts_heads : (l : List ℕ) (i k : ℕ) → tails k l ≡ true → walk i k l ≡ WellFormed → firsts k l ≡ heads l
+firsts_heads : (l : List ℕ) (i k : ℕ) → tails k l ≡ true → walk i k l ≡ Ok tt → firsts k l ≡ heads l
 unfolding firsts heads walk tails
 firsts_heads [] i k t e = refl
 firsts_heads (x ∷ xs) i (suc k) t e =
     rw (and_first (is_tail x) (tails k xs) t, firsts_heads xs (i + 1) k (and_second (is_tail x) (tails k xs) t) e)
 firsts_heads (x ∷ xs) i zero t e = go (char_len (x ∷ xs)) refl e (firsts_heads xs (i + 1))
   where
-    go : (n : ℕ) → char_len (x ∷ xs) ≡ n → cond (eqb n 0) (IllFormed (record { 0 = i })) (walk (i + 1) (n - 1) xs) ≡ WellFormed
-        → ((k : ℕ) → tails k xs ≡ true → walk (i + 1) k xs ≡ WellFormed → firsts k xs ≡ heads xs)
+    go : (n : ℕ) → char_len (x ∷ xs) ≡ n → cond (eqb n 0) (Err (place i)) (walk (i + 1) (n - 1) xs) ≡ Ok tt
+        → ((k : ℕ) → tails k xs ≡ true → walk (i + 1) k xs ≡ Ok tt → firsts k xs ≡ heads xs)
         → true ∷ firsts (char_len (x ∷ xs) - 1) xs ≡ not (is_tail x) ∷ heads xs
     go zero f e ih = let z : ◌≡◌ {A = ℕ} 0 1 = cc in absurd (omega arith)
     go (suc n) f e ih =
         let m : suc n - 1 ≡ n = omega arith in
-        let w : walk (i + 1) n xs ≡ WellFormed = simp (eqb-suc-zero n, m) at e in
+        let w : walk (i + 1) n xs ≡ Ok tt = simp (eqb-suc-zero n, m) at e in
         simp (f, m, char_first x xs n f, ih n (char_tails x xs n f) w)
 
 -- the law between the two ways to count
-pub firsts_are : (s : List ℕ) → utf8_of s ≡ WellFormed → firsts 0 s ≡ heads s
+pub firsts_are : (s : List ℕ) → utf8_of s ≡ Ok tt → firsts 0 s ≡ heads s
 unfolding utf8_of tails
 firsts_are s e = firsts_heads s 0 0 refl e
 
 -- the manual's way gives document 01's position on every UTF-8 text
-pub manual_counts : (s : List ℕ) (i : ℕ) → utf8_of s ≡ WellFormed → manual_at s i ≡ calc_char_pos_at s i
+pub manual_counts : (s : List ℕ) (i : ℕ) → utf8_of s ≡ Ok tt → manual_at s i ≡ calc_char_pos_at s i
 unfolding manual_at calc_char_pos_at
 manual_counts s i u = rw (firsts_are s u)
 
 -- The smallest text on which the two would differ is the byte 0x80 alone, which continues a character that none has begun: it is no UTF-8
-pub manual_apart : (manual_at (0x80 ∷ []) 1 ≡ 1) × ((calc_char_pos_at (0x80 ∷ []) 1 ≡ 2) × (utf8_of (0x80 ∷ []) ≡ IllFormed (record { 0 = 0 })))
+pub manual_apart : (manual_at (0x80 ∷ []) 1 ≡ 1) × ((calc_char_pos_at (0x80 ∷ []) 1 ≡ 2) × (utf8_of (0x80 ∷ []) ≡ Err (place 0)))
 unfolding manual_at heads calc_char_pos_at firsts count utf8_of walk char_len len_at row_of keeps within
 manual_apart = (refl, (refl, refl))
 
@@ -67,48 +68,23 @@ heads_at [] i h = absurd (omega arith)
 heads_at (x ∷ xs) zero h = refl
 heads_at (x ∷ xs) (suc i) h = heads_at xs i (omega arith)
 
--- the invariant of the loop that counts
-pub record Counting (s : List ℕ) (end i n : ℕ) : Type 0 where
-  pub same : n ≡ manual_at s i
-  pub small : n ≤ i + 1
-  pub inside : i ≤ end
-
-pub count_start : (s : List ℕ) (end : ℕ) → Counting s end 0 1
-unfolding count manual_at
-count_start s end = record { same = refl; small = omega arith; inside = omega arith }
-
-module _ {s : List ℕ} {end i n : ℕ} {r : Bool} (v : Counting s end i n) (q : r ≡ is_tail (get_or s i 0)) (h : i < length s) (k : i < end) where
-  one_more : (t : Bool) → not r ≡ t → manual_at s (i + 1) ≡ manual_at s i + cond t 1 0
-  unfolding count manual_at
-  one_more t e =
-      let l : i < length (heads s) = omega (arith, heads_length s) in
-      let g : get_or (heads s) i false ≡ t = heads_at s i h ∙ ap not (sym q) ∙ e in
-      let e : count (take (i + 1) (heads s)) ≡ count (take i (heads s)) + cond t 1 0 = simp (add-one, take-suc (heads s) i false l, count_append, g) in
-      omega arith
-
-  pub count_tail : r ≡ true → Counting s end (i + 1) n
-  count_tail e = record { same = omega (arith, one_more false (ap not e)); small = omega arith; inside = omega arith }
-
-  pub count_head : r ≡ false → Counting s end (i + 1) (n + 1)
-  count_head e = record { same = omega (arith, one_more true (ap not e)); small = omega arith; inside = omega arith }
-
-module _ {s : List ℕ} {end i n : ℕ} (v : Counting s end i n) (u : utf8_of s ≡ WellFormed) where
-  -- at the place
-  pub count_there : end ≤ i → n ≡ calc_char_pos_at s end
-  count_there h = let e : i ≡ end = omega arith in cc (manual_counts s end u)
-
-  -- at the text's end, with the place at it or past it
-  pub count_end : length s ≤ i → n ≡ calc_char_pos_at s end
-  unfolding manual_at
-  count_end h =
-      let a : take i (heads s) ≡ heads s = take_all i (heads s) (omega (arith, heads_length s)) in
-      let b : take end (heads s) ≡ heads s = take_all end (heads s) (omega (arith, heads_length s)) in
-      v.same ∙ rw (a, ← b) (manual_counts s end u)
-
-pub ruleset counted = (count_start, count_tail, count_head, count_there, count_end)
+-- the bytes that continue no character, counted
+pub heads_counted : (s : List ℕ) (n : ℕ) → 1 + length (filter (λ b. not (is_tail b)) (take n s)) ≡ manual_at s n
+unfolding manual_at count heads
+heads_counted s n = ap (λ k. 1 + k) (go n s)
+  where
+    go : (n : ℕ) (s : List ℕ) → length (filter (λ b. not (is_tail b)) (take n s)) ≡ count (take n (heads s))
+    go zero s = refl
+    go (suc n) [] = refl
+    go (suc n) (x ∷ xs) = one (is_tail x) (go n xs)
+      where
+        one : (t : Bool) → length (filter (λ b. not (is_tail b)) (take n xs)) ≡ count (take n (heads xs))
+            → length (cond (not t) (x ∷ filter (λ b. not (is_tail b)) (take n xs)) (filter (λ b. not (is_tail b)) (take n xs))) ≡ count (not t ∷ take n (heads xs))
+        one true h = h
+        one false h = ap suc h
 
 -- on a UTF-8 text a place is on a character where its byte continues none
-module _ (s : List ℕ) (i : ℕ) (u : utf8_of s ≡ WellFormed) where
+module _ (s : List ℕ) (i : ℕ) (u : utf8_of s ≡ Ok tt) where
   pub on_byte : i < length s → on_character s i ≡ not (is_tail (get_or s i 0))
   unfolding on_character
   on_byte h = simp (ne_eqb i (length s) (λ e. omega arith), firsts_are s u) (heads_at s i h)
@@ -123,23 +99,23 @@ firsts_length [] k = refl
 firsts_length (x ∷ xs) (suc k) = ap suc (firsts_length xs k)
 firsts_length (x ∷ xs) zero = ap suc (firsts_length xs (char_len (x ∷ xs) - 1))
 
-firsts_join : (l : List ℕ) (i k : ℕ) (b : List ℕ) → k ≤ length l → walk i k l ≡ WellFormed → firsts k (l ++ b) ≡ firsts k l ++ firsts 0 b
+firsts_join : (l : List ℕ) (i k : ℕ) (b : List ℕ) → k ≤ length l → walk i k l ≡ Ok tt → firsts k (l ++ b) ≡ firsts k l ++ firsts 0 b
 unfolding firsts walk
 firsts_join [] i zero b h e = refl
 firsts_join [] i (suc k) b h e = absurd (omega arith)
 firsts_join (x ∷ xs) i (suc k) b h e = rw (firsts_join xs (i + 1) k b (omega arith) e)
 firsts_join (x ∷ xs) i zero b h e = go (char_len (x ∷ xs)) refl e (λ k. firsts_join xs (i + 1) k b)
   where
-    go : (n : ℕ) → char_len (x ∷ xs) ≡ n → cond (eqb n 0) (IllFormed (record { 0 = i })) (walk (i + 1) (n - 1) xs) ≡ WellFormed
-        → ((k : ℕ) → k ≤ length xs → walk (i + 1) k xs ≡ WellFormed → firsts k (xs ++ b) ≡ firsts k xs ++ firsts 0 b)
+    go : (n : ℕ) → char_len (x ∷ xs) ≡ n → cond (eqb n 0) (Err (place i)) (walk (i + 1) (n - 1) xs) ≡ Ok tt
+        → ((k : ℕ) → k ≤ length xs → walk (i + 1) k xs ≡ Ok tt → firsts k (xs ++ b) ≡ firsts k xs ++ firsts 0 b)
         → true ∷ firsts (char_len (x ∷ xs ++ b) - 1) (xs ++ b) ≡ (true ∷ firsts (char_len (x ∷ xs) - 1) xs) ++ firsts 0 b
     go zero f e ih = let z : ◌≡◌ {A = ℕ} 0 1 = cc in absurd (omega arith)
     go (suc n) f e ih =
         let m : suc n - 1 ≡ n = omega arith in
-        let w : walk (i + 1) n xs ≡ WellFormed = simp (eqb-suc-zero n, m) at e in
+        let w : walk (i + 1) n xs ≡ Ok tt = simp (eqb-suc-zero n, m) at e in
         simp (char_more x xs n f b, f, m, ih n (char_inside x xs n f) w)
 
-module _ (a b : List ℕ) (u : utf8_of a ≡ WellFormed) where
+module _ (a b : List ℕ) (u : utf8_of a ≡ Ok tt) where
   joined : firsts 0 (a ++ b) ≡ firsts 0 a ++ firsts 0 b
   unfolding utf8_of
   joined = firsts_join a 0 0 b (omega arith) u

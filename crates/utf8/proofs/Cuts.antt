@@ -9,17 +9,18 @@ use borrow.Author.Tests.{leb-true, eqb-true, le-leb}
 use lib.Dec.{eqb, leb, lit≤, eqb-suc-zero}
 use lib.ListN.{length, get_or, take, drop, length-drop, get_or-eq_default}
 use lib.Seq.{drop-drop, get_or-drop}
+use Rattle.std.specs.Prelude.{Result, Ok, Err}
 use Rattle.utf8.specs.Blanks.{blank1, blank2, blank3, blank_len, blank_at, byte_before, blank_end, blank_before, front, trim_start, back, trim_end, trim_of}
 use Rattle.text_bytes.specs.Bytes.{within, is_tail}
 use Rattle.utf8.specs.Characters.{Range, Row, table, keeps, row_of, len_at, char_len, walk, utf8_of}
 use Rattle.text_bytes.specs.Scan.{run, scan}
-use Rattle.utf8.specs.declared.Utf8.{Utf8}
-use Rattle.utf8.specs.declared.Utf8.TheVariants.{WellFormed, IllFormed}
 use Rattle.text_bytes.proofs.Ranges.{either, within_yes, within_ge, within_le, and_true, and_first, and_second}
 use Rattle.utf8.proofs.Octets.{tails, row_1, row_3, char_at, char_tails, char_first, char_ascii}
 use Rattle.utf8.proofs.Trimming.{blank_before_le}
 use Rattle.text_bytes.proofs.Scans.{run_le}
 use Rattle.text_bytes.proofs.Ahead.{run_bytes}
+use Rattle.text_bytes.specs.declared.Place.{Place}
+use Rattle.text_bytes.specs.Moves.{place}
 
 -- a step by a length: 0 stops, any other goes on
 step : {A : Type 0} (P : A → Type 0) (n : ℕ) (a : A) (b : ℕ → A) → P a → ((m : ℕ) → n ≡ suc m → P (b m)) → P (cond (eqb n 0) a (b (n - 1)))
@@ -32,17 +33,17 @@ data Chars : ℕ → List ℕ → Type 0 where
   later : {k x : ℕ} {xs : List ℕ} → is_tail x ≡ true → Chars k xs → Chars (suc k) (x ∷ xs)
   first : {n x : ℕ} {xs : List ℕ} → char_len (x ∷ xs) ≡ suc n → Chars n xs → Chars 0 (x ∷ xs)
 
-chars_from : (l : List ℕ) (i k : ℕ) → tails k l ≡ true → walk i k l ≡ WellFormed → Chars k l
+chars_from : (l : List ℕ) (i k : ℕ) → tails k l ≡ true → walk i k l ≡ Ok tt → Chars k l
 unfolding walk tails
 chars_from [] i zero t = λ e. end
 chars_from [] i (suc k) t = let z : ◌≡◌ {A = ℕ} 0 1 = cc in absurd (omega arith)
 chars_from (x ∷ xs) i (suc k) t = λ e. later (and_first (is_tail x) (tails k xs) t) (chars_from xs (i + 1) k (and_second (is_tail x) (tails k xs) t) e)
 chars_from (x ∷ xs) i zero t =
-    step (λ (u : Utf8). u ≡ WellFormed → Chars 0 (x ∷ xs)) (char_len (x ∷ xs)) (IllFormed (record { 0 = i })) (λ k. walk (i + 1) k xs)
+    step (λ (u : Result (Unit {0}) Place). u ≡ Ok tt → Chars 0 (x ∷ xs)) (char_len (x ∷ xs)) (Err (place i)) (λ k. walk (i + 1) k xs)
     (λ e. let z : ◌≡◌ {A = ℕ} 0 1 = cc in absurd (omega arith))
     (λ n f e. first f (chars_from xs (i + 1) n (char_tails x xs n f) e))
 
-chars_walk : {k : ℕ} {l : List ℕ} (i : ℕ) → Chars k l → walk i k l ≡ WellFormed
+chars_walk : {k : ℕ} {l : List ℕ} (i : ℕ) → Chars k l → walk i k l ≡ Ok tt
 unfolding walk
 chars_walk i end = refl
 chars_walk i (later t w) = chars_walk (i + 1) w
@@ -80,16 +81,16 @@ chars_cut (suc m) (first {n} {x} {xs} f w) c =
     let v = chars_cut m w c in
     (first (len_take xs n m (chars_le v.0) table (row_of table x) f) v.0, v.1)
 
-chars : (s : List ℕ) → utf8_of s ≡ WellFormed → Chars 0 s
+chars : (s : List ℕ) → utf8_of s ≡ Ok tt → Chars 0 s
 unfolding utf8_of tails
 chars s u = chars_from s 0 0 refl u
 
-module _ (s : List ℕ) (m : ℕ) (u : utf8_of s ≡ WellFormed) (c : is_tail (get_or s m 0) ≡ false) where
-  pub utf8_drop : utf8_of (drop m s) ≡ WellFormed
+module _ (s : List ℕ) (m : ℕ) (u : utf8_of s ≡ Ok tt) (c : is_tail (get_or s m 0) ≡ false) where
+  pub utf8_drop : utf8_of (drop m s) ≡ Ok tt
   unfolding utf8_of
   utf8_drop = chars_walk 0 (chars_cut m (chars s u) c).1
 
-  pub utf8_take : utf8_of (take m s) ≡ WellFormed
+  pub utf8_take : utf8_of (take m s) ≡ Ok tt
   unfolding utf8_of
   utf8_take = chars_walk 0 (chars_cut m (chars s u) c).0
 
@@ -108,11 +109,11 @@ chars_next (suc j) (later t w) h c = chars_next j w (omega arith) c
 chars_next (suc j) (first f w) h c = chars_next j w (omega arith) c
 
 -- after an ASCII byte a character starts, or the text ends
-pub after_ascii : (s : List ℕ) (j : ℕ) → utf8_of s ≡ WellFormed → j < length s → get_or s j 0 < 128 → is_tail (get_or s (j + 1) 0) ≡ false
+pub after_ascii : (s : List ℕ) (j : ℕ) → utf8_of s ≡ Ok tt → j < length s → get_or s j 0 < 128 → is_tail (get_or s (j + 1) 0) ≡ false
 after_ascii s j u h c = rw add-one (chars_next j (chars s u) h c)
 
 -- so where a scan over ASCII bytes stops
-pub scan_on : (p : ℕ → Bool) → ((x : ℕ) → p x ≡ true → x < 128) → (s : List ℕ) (i : ℕ) → utf8_of s ≡ WellFormed → is_tail (get_or s i 0) ≡ false → is_tail (get_or s (scan p s i) 0) ≡ false
+pub scan_on : (p : ℕ → Bool) → ((x : ℕ) → p x ≡ true → x < 128) → (s : List ℕ) (i : ℕ) → utf8_of s ≡ Ok tt → is_tail (get_or s i 0) ≡ false → is_tail (get_or s (scan p s i) 0) ≡ false
 unfolding scan
 scan_on p f s i u c = go (run p (drop i s)) refl
   where
@@ -204,7 +205,7 @@ front_on s i h (first {n} {x} {xs} f w) =
     (λ m b. let r : m ≡ n = omega (arith, blank_char x xs m b) in rw r (front_on s (i + 1) (sym (drop-drop 1 i s) ∙ ap (drop 1) h) w))
 
 -- where trimming stops at the front, a character starts
-pub trim_start_on : (s : List ℕ) → utf8_of s ≡ WellFormed → is_tail (get_or s (trim_start s) 0) ≡ false
+pub trim_start_on : (s : List ℕ) → utf8_of s ≡ Ok tt → is_tail (get_or s (trim_start s) 0) ≡ false
 unfolding trim_start
 trim_start_on s u = front_on s 0 refl (chars s u)
 
@@ -224,7 +225,7 @@ pub trim_end_on : (s : List ℕ) → is_tail (get_or s (trim_end s) 0) ≡ false
 unfolding trim_end
 trim_end_on s = back_on s (length s) 0 (length s) (omega arith) (rw (get_or-eq_default s 0 {n = length s} (omega arith)) (unfold within in refl))
 
-pub trim_utf8 : (s : List ℕ) → utf8_of s ≡ WellFormed → utf8_of (trim_of s) ≡ WellFormed
+pub trim_utf8 : (s : List ℕ) → utf8_of s ≡ Ok tt → utf8_of (trim_of s) ≡ Ok tt
 unfolding trim_of
 trim_utf8 s u =
     let t = drop (trim_start s) s in

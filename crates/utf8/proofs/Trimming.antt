@@ -2,16 +2,16 @@
 use Prim.Native.Nat.{ℕ, zero, suc, ◌+◌, ◌-◌, ◌≤◌, ◌<◌}
 use mathlib.Core.Bool.{Bool, true, false, cond}
 use mathlib.Core.List.{List, [], ◌∷◌}
-use mathlib.Core.Path.{◌≡◌, refl, sym, ◌∙◌}
+use mathlib.Core.Path.{◌≡◌, refl, sym}
 use native.Mathlib.Omega.{arith}
 use borrow.Author.Tests.{eq-eqb, ne_eqb, le-leb, lt-leb}
 use lib.Dec.{eqb, lit≤, eqb-suc-zero}
-use lib.ListN.{length, get_or, take, drop, drop_of_length-le}
+use lib.ListN.{length, get_or, take, drop, drop_of_length-le, length-drop}
 use lib.Seq.{drop-cons, drop-drop, get_or-drop, length-take-le}
 use Rattle.text_bytes.specs.Bytes.{within}
 use Rattle.utf8.specs.Blanks.{blank1, blank2, blank3, blank_len, blank_at, byte_before, blank_end, blank_before, front, trim_start, back, trim_end, trim_part, trim_of}
-use Rattle.text_bytes.specs.declared.Part.{Part}
-use Rattle.text_bytes.proofs.Parts.{rest_part}
+use Rattle.text_bytes.specs.Words.{part_bytes}
+use Rattle.text_bytes.proofs.Parts.{part_inside}
 use Rattle.text_bytes.proofs.Ranges.{and_false, within_ge, within_le}
 
 either_le : (t : Bool) (a b m : ℕ) → a ≤ m → b ≤ m → cond t a b ≤ m
@@ -41,13 +41,13 @@ blank_before_le s (suc (suc (suc e))) = three e (blank_before_3 s (suc (suc (suc
     three : {n : ℕ} (e : ℕ) → n ≤ 3 → n ≤ suc (suc (suc e))
     three e h = omega arith
 
--- a plain byte starts no white space and ends none: r is what its test answered
-module _ (a b c : ℕ) {r : Bool} (q : r ≡ within 33 127 a) (e : r ≡ true) where
+-- a plain byte starts no white space and ends none
+module _ (a b c : ℕ) (e : within 33 127 a ≡ true) where
   more : 33 ≤ a
-  more = within_ge 33 127 a (sym e ∙ q)
+  more = within_ge 33 127 a (sym e)
 
   less : a < 128
-  less = omega (arith, within_le 33 127 a (sym e ∙ q))
+  less = omega (arith, within_le 33 127 a (sym e))
 
   low : eqb a 32 ≡ false
   low = ne_eqb a 32 (λ f. omega (arith, more))
@@ -55,12 +55,12 @@ module _ (a b c : ℕ) {r : Bool} (q : r ≡ within 33 127 a) (e : r ≡ true) w
   high : (n : ℕ) → 128 ≤ n → eqb a n ≡ false
   high n h = ne_eqb a n (λ f. omega (arith, less))
 
-  pub plain_len : 0 ≡ blank_len a b c
+  pub plain_len : blank_len a b c ≡ 0
   unfolding blank_len blank1 blank2 blank3
   plain_len =
       simp (lt-leb a 13 (omega (arith, more)), and_false, low, high 0xc2 (lit≤ tt), high 0xe1 (lit≤ tt), high 0xe2 (lit≤ tt), high 0xe3 (lit≤ tt))
 
-  pub plain_end : 0 ≡ blank_end a b c
+  pub plain_end : blank_end a b c ≡ 0
   unfolding blank_end blank1 blank2 blank3
   plain_end =
       simp (
@@ -83,9 +83,6 @@ unfolding blank_at
 blank_drop s i =
     let e : i + 0 ≡ i = omega arith in
     simp (get_or-drop, e)
-
-pub blank_inside : (s : List ℕ) (e n : ℕ) → n ≡ blank_before s e → n ≤ e
-blank_inside s e n q = omega (arith, blank_before_le s e)
 
 front_skip : (i k : ℕ) (l : List ℕ) → front i k l ≡ front (i + k) 0 (drop k l)
 unfolding front
@@ -177,7 +174,7 @@ pub trim_whole : (s : List ℕ) → 0 < length s → within 33 127 (get_or s (le
 unfolding blank_before byte_before
 trim_whole s h e =
     let f : within 33 127 (byte_before s (length s) 1) ≡ true = simp (le-leb 1 (length s) (omega arith)) e in
-    sym (back_stop (back_start s) (plain_end (byte_before s (length s) 1) (byte_before s (length s) 2) (byte_before s (length s) 3) refl f) refl)
+    sym (back_stop (back_start s) (sym (plain_end (byte_before s (length s) 1) (byte_before s (length s) 2) (byte_before s (length s) 3) f)) refl)
 
 back_le : (s : List ℕ) (e k : ℕ) → back s e k ≤ e
 unfolding back
@@ -189,9 +186,15 @@ back_le s (suc e) zero = go (eqb (blank_before s (suc e)) 0) (back_le s e (blank
     go true h = omega arith
     go false h = omega arith
 
-pub trim_end_le : (s : List ℕ) (e : ℕ) → e ≡ trim_end s → e ≤ length s
+pub end_inside : (s : List ℕ) → trim_end s ≤ length s
 unfolding trim_end
-trim_end_le s e q = omega (arith, back_le s (length s) 0)
+end_inside s = omega (arith, back_le s (length s) 0)
+
+pub end_count : (s : List ℕ) → length (take (trim_end s) s) ≡ trim_end s
+end_count s = length-take-le (trim_end s) s (end_inside s)
+
+pub trim_end_le : (s : List ℕ) (e : ℕ) → e ≡ trim_end s → e ≤ length s
+trim_end_le s e q = omega (arith, end_inside s)
 
 pub trim_count : (s : List ℕ) (e : ℕ) → e ≡ trim_end s → e ≡ length (take e s)
 trim_count s e q = sym (length-take-le e s (trim_end_le s e q))
@@ -220,17 +223,16 @@ front_le i zero (x ∷ xs) h = go (blank_at (x ∷ xs) 0) (blank_le (x ∷ xs)) 
         let m : suc n - 1 ≡ n = omega arith in
         simp (eqb-suc-zero n, m) (omega (arith, ih n (omega arith)))
 
-pub trim_start_le : (s : List ℕ) (a : ℕ) → a ≡ trim_start s → a ≤ length s
+pub start_inside : (s : List ℕ) → trim_start s ≤ length s
 unfolding trim_start
-trim_start_le s a q = omega (arith, front_le 0 0 s (omega arith))
+start_inside s = omega (arith, front_le 0 0 s (omega arith))
 
-pub trim_part_is : (s : List ℕ) (a e : ℕ) → a ≡ trim_start s → e ≡ trim_end (take (length s - a) (drop a s))
-    → ◌≡◌ {A = Part} (record { start = record { 0 = a }; len = e }) (trim_part s)
-unfolding trim_part
-trim_part_is s a e q h = simp (h, q, rest_part)
+pub trim_start_le : (s : List ℕ) (a : ℕ) → a ≡ trim_start s → a ≤ length s
+trim_start_le s a q = omega (arith, start_inside s)
 
-pub trim_bytes : (s : List ℕ) (a e : ℕ) → a ≡ trim_start s → e ≡ trim_end (take (length s - a) (drop a s)) → take e (take (length s - a) (drop a s)) ≡ trim_of s
-unfolding trim_of
-trim_bytes s a e p q = simp (q, p, rest_part)
-
-pub ruleset parted = (trim_start_le, trim_end_le, trim_count, trim_part_is, trim_bytes)
+-- the part that trimming leaves lies inside: its bytes are those that it leaves
+pub part_trimmed : (s : List ℕ) → part_bytes s (trim_part s) ≡ trim_of s
+unfolding trim_part trim_of
+part_trimmed s =
+    let d = drop (trim_start s) s in
+    part_inside s (record { start = record { 0 = trim_start s }; len = trim_end d }) (omega (arith, start_inside s, end_inside d, length-drop (trim_start s) s))

@@ -1,9 +1,9 @@
 -- UTF-8, and the characters of a text.
-use Rattle.std.specs.Prelude.{ℕ, zero, suc, ◌+◌, ◌-◌, Bool, true, false, ◌&&◌, not, cond, List, [], ◌∷◌, eqb, ltb, length, get_or, take, drop}
+use Rattle.std.specs.Prelude.{ℕ, zero, suc, ◌+◌, ◌-◌, Bool, true, false, ◌&&◌, not, List, [], ◌∷◌, eqb, ltb, length, get_or, take, drop, Result, Ok, Err, if◌then◌else◌}
 use Rattle.text_bytes.specs.Bytes.{within}
 use Rattle.text_bytes.specs.Bytes.{is_tail}
-use Rattle.utf8.specs.declared.Utf8.{Utf8}
-use Rattle.utf8.specs.declared.Utf8.TheVariants.{WellFormed, IllFormed}
+use Rattle.text_bytes.specs.declared.Place.{Place}
+use Rattle.text_bytes.specs.Moves.{place}
 
 -- %xLO-HI, a range of octets
 pub record Range : Type 0 where
@@ -48,12 +48,12 @@ keeps (r ∷ rs) (x ∷ xs) = within r.low r.high x && keeps rs xs
 -- the row in whose first range an octet stands, counted from 0; as many as there are rows for none
 unfoldable pub row_of : List Row → ℕ → ℕ
 row_of [] x = 0
-row_of (r ∷ rs) x = cond (within r.first.low r.first.high x) 0 (suc (row_of rs x))
+row_of (r ∷ rs) x = if within r.first.low r.first.high x then 0 else suc (row_of rs x)
 
 -- the octets of a sequence of row n that goes on with xs, 0 where it may not
 unfoldable pub len_at : List Row → ℕ → List ℕ → ℕ
 len_at [] n xs = 0
-len_at (r ∷ rs) zero xs = cond (keeps r.later xs) (suc (length r.later)) 0
+len_at (r ∷ rs) zero xs = if keeps r.later xs then suc (length r.later) else 0
 len_at (r ∷ rs) (suc n) xs = len_at rs n xs
 
 -- the octets of the character at the front, 0 where none is well formed
@@ -67,13 +67,13 @@ is_ascii [] = true
 is_ascii (x ∷ xs) = ltb x 128 && is_ascii xs
 
 -- From place i on, where the next `skip` octets belong to a character that was judged: the place of the first ill-formed sequence, or none
-unfoldable pub walk : ℕ → ℕ → List ℕ → Utf8
-walk i skip [] = WellFormed
+unfoldable pub walk : ℕ → ℕ → List ℕ → Result (Unit {0}) Place
+walk i skip [] = Ok tt
 walk i (suc k) (x ∷ xs) = walk (i + 1) k xs
-walk i zero (x ∷ xs) = cond (eqb (char_len (x ∷ xs)) 0) (IllFormed (record { 0 = i })) (walk (i + 1) (char_len (x ∷ xs) - 1) xs)
+walk i zero (x ∷ xs) = if eqb (char_len (x ∷ xs)) 0 then Err (place i) else walk (i + 1) (char_len (x ∷ xs) - 1) xs
 
 -- `utf8_test`
-unfoldable pub utf8_of : List ℕ → Utf8
+unfoldable pub utf8_of : List ℕ → Result (Unit {0}) Place
 utf8_of s = walk 0 0 s
 
 -- For each octet, whether a character starts with it, where the next `skip` octets belong to one that has started
@@ -85,7 +85,7 @@ firsts zero (x ∷ xs) = true ∷ firsts (char_len (x ∷ xs) - 1) xs
 -- how many are true
 unfoldable pub count : List Bool → ℕ
 count [] = 0
-count (t ∷ ts) = cond t (suc (count ts)) (count ts)
+count (t ∷ ts) = if t then suc (count ts) else count ts
 
 -- how many characters a text has
 unfoldable pub characters : List ℕ → ℕ
@@ -106,7 +106,7 @@ manual_at s i = 1 + count (take i (heads s))
 
 -- a place where a character starts, or the end of the text
 unfoldable pub on_character : List ℕ → ℕ → Bool
-on_character s i = cond (eqb i (length s)) true (get_or (firsts 0 s) i false)
+on_character s i = if eqb i (length s) then true else get_or (firsts 0 s) i false
 
 -- the place n characters after i, or the end of the text
 unfoldable pub skip_chars : ℕ → List ℕ → ℕ → ℕ

@@ -6,72 +6,78 @@ ghost use Rattle.utf8.specs.Blanks.{blank1, blank2, blank3, blank_len, blank_end
 use text_bytes::{Part, Place, byte_at};
 
 // U+0009 to 000D, 0020.
+#[tactic(auto, unfolding(crate::specs::Blanks::blank1))]
 fn is_blank1(a: u8) -> bool
     ensures { result ≡ blank1 a }
 {
-    ((9 <= a) & (a <= 13)) | (a == 32)
+    matches!(a, 9..=13 | 32)
 }
 
 // U+0085, 00A0.
+#[tactic(auto, unfolding(crate::specs::Blanks::blank2))]
 fn is_blank2(a: u8, b: u8) -> bool
     ensures { result ≡ blank2 a b }
 {
-    (a == 0xc2) & ((b == 0x85) | (b == 0xa0))
+    matches!((a, b), (0xc2, 0x85 | 0xa0))
 }
 
-// U+1680, 2000 to 200A, 2028, 2029, 202F, 205F, 3000.
+// U+1680, 2000 to 200A, 2028, 2029, 202F, 205F, 3000. Three bytes and no array, as the definitions take them.
+#[tactic(auto, unfolding(crate::specs::Blanks::blank3))]
 fn is_blank3(a: u8, b: u8, c: u8) -> bool
     ensures { result ≡ blank3 a b c }
 {
-    ((a == 0xe1) & ((b == 0x9a) & (c == 0x80)))
-        | (((a == 0xe2)
-            & (((b == 0x80)
-                & (((0x80 <= c) & (c <= 0x8a)) | ((c == 0xa8) | ((c == 0xa9) | (c == 0xaf)))))
-                | ((b == 0x81) & (c == 0x9f))))
-            | ((a == 0xe3) & ((b == 0x80) & (c == 0x80))))
+    matches!(
+        (a, b, c),
+        (0xe1, 0x9a, 0x80)
+            | (0xe2, 0x80, 0x80..=0x8a | 0xa8 | 0xa9 | 0xaf)
+            | (0xe2, 0x81, 0x9f)
+            | (0xe3, 0x80, 0x80)
+    )
 }
 
 // An ASCII byte after the space is no white space, nor part of one.
+#[tactic(auto, unfolding(text_bytes::specs::Bytes::within))]
 fn is_plain(a: u8) -> bool
     ensures { result ≡ within 33 127 a }
 {
-    (33 <= a) & (a <= 127)
+    matches!(a, 33..=127)
 }
 
-// The bytes of the white space that starts with these, 0 for none.
+// The bytes of the white space that starts with these, 0 for none: a number, as the definitions of trimming count by it.
+#[tactic(auto, unfolding(crate::specs::Blanks::blank_len))]
 fn blank_len(a: u8, b: u8, c: u8) -> usize
     ensures value { result ≡ blank_len a b c }
     ensures upper_bound { result ≤ 3 }
 {
     if is_blank1(a) {
-        return 1;
+        1
+    } else if is_blank2(a, b) {
+        2
+    } else if is_blank3(a, b, c) {
+        3
+    } else {
+        0
     }
-    if is_blank2(a, b) {
-        return 2;
-    }
-    if is_blank3(a, b, c) {
-        return 3;
-    }
-    0
 }
 
-// The same, of the bytes that it ends with, the last first.
+// The same, of the bytes that it ends with, the last first. Two: the bytes of a character come in the other order.
+#[tactic(auto, unfolding(crate::specs::Blanks::blank_end))]
 fn blank_end(a: u8, b: u8, c: u8) -> usize
     ensures { result ≡ blank_end a b c }
 {
     if is_blank1(a) {
-        return 1;
+        1
+    } else if is_blank2(b, a) {
+        2
+    } else if is_blank3(c, b, a) {
+        3
+    } else {
+        0
     }
-    if is_blank2(b, a) {
-        return 2;
-    }
-    if is_blank3(c, b, a) {
-        return 3;
-    }
-    0
 }
 
-// The bytes of the white space that starts at a place, 0 for none.
+// The bytes of the white space that starts at a place, 0 for none likewise.
+#[tactic(auto, unfolding(crate::specs::Blanks::blank_at), using(crate::proofs::Trimming::plain_len))]
 fn blank_at(text: &[u8], at: Place) -> usize
     requires { at.0 < length text.now }
     ensures value { result ≡ blank_at text.now at.0 }
@@ -85,7 +91,8 @@ fn blank_at(text: &[u8], at: Place) -> usize
     blank_len(a, byte_at(text, Place(i + 1)), byte_at(text, Place(i + 2)))
 }
 
-// The byte that stands so many before a place, 0 for none.
+// The byte that stands so many before a place, 0 for none, as `byte_at` has it past the end.
+#[tactic(auto, unfolding(crate::specs::Blanks::byte_before))]
 fn byte_before(text: &[u8], end: Place, k: usize) -> u8
     ensures { result ≡ byte_before text.now end.0 k }
 {
@@ -97,7 +104,8 @@ fn byte_before(text: &[u8], end: Place, k: usize) -> u8
     }
 }
 
-// The bytes of the white space that ends at a place, 0 for none. No walk: the first byte of a character is no later byte of one.
+// The bytes of the white space that ends at a place, 0 for none likewise. No walk: the first byte of a character is no later byte of one.
+#[tactic(auto, unfolding(crate::specs::Blanks::blank_before), using(crate::proofs::Trimming::plain_end))]
 fn blank_before(text: &[u8], end: Place) -> usize
     ensures { result ≡ blank_before text.now end.0 }
 {
@@ -108,54 +116,50 @@ fn blank_before(text: &[u8], end: Place) -> usize
     blank_end(a, byte_before(text, end, 2), byte_before(text, end, 3))
 }
 
-// Where a text starts without its leading white space.
+// Where a text starts without its leading white space. A loop, no iterator of bytes: a turn is a whole character.
+#[tactic(auto, using(crate::proofs::Trimming::fronted))]
 pub fn trim_start(text: &[u8]) -> Place
     ensures { result.0 ≡ trim_start text.now }
 {
-    let mut i: usize = 0;
+    let mut i = 0;
     while i < text.len() {
-        let n = blank_at(text, Place(i));
-        if n == 0 {
-            return Place(i);
+        match blank_at(text, Place(i)) {
+            0 => break,
+            n => i += n,
         }
-        i += n;
     }
     Place(i)
 }
 
-// Where it ends without its trailing white space. A link's `trim_end` is this on the link's part.
+// Where it ends without its trailing white space, by a like loop. A link's `trim_end` is this on the link's part.
+#[tactic(auto, using(crate::proofs::Trimming::backed, crate::proofs::Trimming::blank_before_le))]
 pub fn trim_end(text: &[u8]) -> Place
     ensures { result.0 ≡ trim_end text.now }
 {
     let mut end = text.len();
     while 0 < end {
-        let n = blank_before(text, Place(end));
-        if n == 0 {
-            return Place(end);
+        match blank_before(text, Place(end)) {
+            0 => break,
+            n => end -= n,
         }
-        end -= n;
     }
     Place(end)
 }
 
 // A text without the white space at its ends, as a place and a length.
+#[tactic(auto, unfolding(crate::specs::Blanks::trim_part))]
 pub fn trim(text: &[u8]) -> Part
     ensures { result ≡ trim_part text.now }
 {
     let start = trim_start(text);
-    let a = start.0;
-    let end = trim_end(&text[a..]);
+    let end = trim_end(text_bytes::rest(text, start));
     Part { start, len: end.0 }
 }
 
 // The same, as a part of the lent text.
+#[tactic(auto, using(crate::proofs::Trimming::part_trimmed))]
 pub fn trimmed(text: &[u8]) -> &[u8]
     ensures { result.now ≡ trim_of text.now }
 {
-    let start = trim_start(text);
-    let a = start.0;
-    let rest = &text[a..];
-    let end = trim_end(rest);
-    let e = end.0;
-    &rest[..e]
+    text_bytes::part_of(text, trim(text))
 }

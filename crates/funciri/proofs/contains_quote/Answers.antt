@@ -1,15 +1,15 @@
-use borrow.Author.Rules.{rules}
-use Rattle.funciri.proofs.Quotes.{searched}
+use Rattle.std.proofs.Common.{◌≡◌, sym, ◌∙◌, true, false}
+use Rattle.funciri.proofs.Quotes.{holds, quotes}
 use Rattle.funciri.proofs.contains_quote.Goals as goal
 
-pub loop-i-init : goal.loop-i-init
-loop-i-init c = search (searched, rules)
+pub returns-then-contains : goal.returns-then-contains
+returns-then-contains c =
+    let s = c.args.link.now in
+    let z : holds 39 s ≡ true = sym c.contains.ensures.value ∙ c.if-contains.true in
+    c.if-contains.true ∙ rw z at (quotes s)
 
-pub returns-then-is_quote : goal.returns-then-is_quote
-returns-then-is_quote c = search (searched, rules)
-
-pub loop-i-preserved : goal.loop-i-preserved
-loop-i-preserved c = search (searched, rules)
-
-pub returns : goal.returns
-returns c = search (searched, rules)
+pub returns-else-contains : goal.returns-else-contains
+returns-else-contains c =
+    let s = c.args.link.now in
+    let z : holds 39 s ≡ false = sym c.contains.ensures.value ∙ c.if-contains.false in
+    c.contains-else-contains.ensures.value ∙ rw z at (quotes s)

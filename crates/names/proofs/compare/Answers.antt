@@ -1,39 +1,23 @@
-use Rattle.names.proofs.Orders.{compared}
-use borrow.Author.Rules.{rules}
+use Rattle.std.proofs.Common.{◌≡◌, length, drop, ◌∷◌, [], suc, sym, subst, ◌∙◌, arith, length-append}
+use Rattle.std.proofs.lemmas.Slice.Zip.{zip_turn, zip_end}
+use Rattle.text_bytes.specs.Words.{lowered}
+use Rattle.names.specs.Order.{order}
+use Rattle.names.proofs.Orders.{turn_told, turn_on, lengths_tell}
 use Rattle.names.proofs.compare.Goals as goal
 
-pub loop-k-init : goal.loop-k-init
-loop-k-init c = search (compared, rules)
+pub returns-then-is_ne : goal.returns-then-is_ne
+returns-then-is_ne c =
+    let t = zip_turn c.args.name.now c.args.word.now c.loop-n.yielded c.into_iter-n-iterator.result c.loop-n.n-iterator c.next.new.self _ (cc) (cc) c.loop-n.yielded_by _ c.in-Some.is c.next.ensures.steps in
+    turn_told (length c.loop-n.yielded) c.args.name.now c.args.word.now t.0 t.1 c.cmp-stand.result (cc (t.2 0, t.3 0)) c.loop-n.invariant (cc)
 
-pub returns-then-word-k : goal.returns-then-word-k
-returns-then-word-k c = search (compared, rules)
+pub loop-n-preserved : goal.loop-n-preserved
+loop-n-preserved c =
+    let t = zip_turn c.args.name.now c.args.word.now c.loop-n.yielded c.into_iter-n-iterator.result c.loop-n.n-iterator c.next.new.self _ (cc) (cc) c.loop-n.yielded_by _ c.in-Some.is c.next.ensures.steps in
+    subst (λ k. order (drop k c.args.name.now) (drop k (lowered c.args.word.now)) ≡ order c.args.name.now (lowered c.args.word.now))
+    {x = suc (length c.loop-n.yielded)} (omega (arith, length-append c.loop-n.yielded ((c.in-Some.n, c.in-Some.b) ∷ [])))
+    (turn_on (length c.loop-n.yielded) c.args.name.now c.args.word.now t.0 t.1 c.cmp-stand.result (cc (t.2 0, t.3 0)) c.loop-n.invariant (cc))
 
-pub bounds-word-k : goal.bounds-word-k
-bounds-word-k c = search (compared, rules)
-
-pub to_ascii_lowercase-b-requires : goal.to_ascii_lowercase-b-requires
-to_ascii_lowercase-b-requires c = search (compared, rules)
-
-pub bounds-name-k : goal.bounds-name-k
-bounds-name-k c = search (compared, rules)
-
-pub returns-then-n-b : goal.returns-then-n-b
-returns-then-n-b c = search (compared, rules)
-
-pub returns-then-b-n : goal.returns-then-b-n
-returns-then-b-n c = search (compared, rules)
-
-pub overflow_add-k : goal.overflow_add-k
-overflow_add-k c = search (compared, rules)
-
-pub loop-k-smaller : goal.loop-k-smaller
-loop-k-smaller c = search (compared, rules)
-
-pub loop-k-preserved : goal.loop-k-preserved
-loop-k-preserved c = search (compared, rules)
-
-pub returns-then-k-word : goal.returns-then-k-word
-returns-then-k-word c = search (compared, rules)
-
-pub returns-else-k-word : goal.returns-else-k-word
-returns-else-k-word c = search (compared, rules)
+pub returns : goal.returns
+returns c =
+    let k = zip_end c.args.name.now c.args.word.now c.loop-n.yielded c.into_iter-n-iterator.result c.loop-n.n-iterator c.next.new.self _ (cc) (cc) c.loop-n.yielded_by c.in-None.is c.next.ensures.steps in
+    c.cmp.ensures ∙ (sym (lengths_tell (length c.loop-n.yielded) c.args.name.now c.args.word.now k) ∙ c.loop-n.invariant)

@@ -1,10 +1,7 @@
-use lib.ListN.{length}
-use Prim.Native.Nat.{◌-◌}
-use Rattle.names.proofs.Orders.{Comparing}
+use Rattle.std.proofs.Common.{◌≡◌, length, drop}
+use Rattle.text_bytes.specs.Words.{lowered}
+use Rattle.names.specs.Order.{order}
 use Rattle.names.proofs.compare.Given as goal
 
-abbrev pub invariant-loop-k : goal.invariant-loop-k
-invariant-loop-k l = Comparing l.name l.word l.k
-
-abbrev pub decreases-loop-k : goal.decreases-loop-k
-decreases-loop-k l = length l.name - l.k
+abbrev pub invariant-loop-n : goal.invariant-loop-n
+invariant-loop-n l = order (drop (length l.yielded) l.name) (drop (length l.yielded) (lowered l.word)) ≡ order l.name (lowered l.word)

@@ -1,6 +1,0 @@
-use Rattle.color.specs.Color.{after_number}
-use Rattle.color.proofs.after_number.Goals as goal
-
-pub returns : goal.returns
-unfolding after_number
-returns c = cc

@@ -1,4 +1,0 @@
-use Rattle.exports.proofs.homeludaf_angle.Goals as goal
-
-pub returns : goal.returns
-returns c = rw (← c.from_str.ensures) c.write_angle.ensures

@@ -1,6 +1,0 @@
-use borrow.Author.Rules.{rules}
-use Rattle.strict.proofs.Feeds.{lined}
-use Rattle.strict.proofs.lines.is_choice.Goals as goal
-
-pub returns : goal.returns
-returns c = search (lined, rules)
