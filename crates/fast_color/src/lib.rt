@@ -12,7 +12,7 @@ ghost use Rattle.fast_color.specs.Told.{numbered, told_or, refused};
 
 use color::Color;
 use packed::NO_COLOR;
-use stream::{Fault, Read, Reason, Refusal, Trouble};
+use stream::{Fault, LIMIT, Read, Reason, Refusal, Trouble};
 use text_bytes::Place;
 
 mod digits;
@@ -87,7 +87,10 @@ fn told_text(text: &[u8]) -> Option<Result<u64, Place>>
 fn refused(text: &[u8], at: Place) -> Option<Result<u64, Place>>
     ensures { result ≡ refused text.now at.0 }
 {
-    matches!(text.len(), 1..=4096).then_some(Err(at))
+    if text.is_empty() || LIMIT < text.len() {
+        return None;
+    }
+    Some(Err(at))
 }
 
 // `#` and digits alone: a colour, or refused where their number is none of four.

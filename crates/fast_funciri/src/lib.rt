@@ -6,11 +6,8 @@ ghost use Rattle.text_bytes.specs.Scan.{scan};
 ghost use Rattle.funciri.specs.Answers.{iri_from_str, func_iri_from_str};
 ghost use Rattle.fast_funciri.specs.Bare.{is_bare_byte};
 
-use stream::Refusal;
+use stream::{LIMIT, Refusal};
 use text_bytes::{ByteClass, Part, Place};
-
-// What no text that is read is longer than.
-const LIMIT: usize = 4096;
 
 struct BareByte;
 

@@ -10,7 +10,7 @@ ghost use Rattle.records.specs.Records.{length_step_record};
 
 use length::{Length, LengthUnit};
 use numbers::Written;
-use stream::{Read, Reason, Refusal, Step, Trouble};
+use stream::{LIMIT, Read, Reason, Refusal, Step, Trouble};
 use text_bytes::Place;
 
 // A whole text. The bytes of a length are ASCII: one that fills the text is told before the text is tested for UTF-8.
@@ -18,7 +18,7 @@ use text_bytes::Place;
 pub fn from_str(text: &[u8]) -> Result<Written<Length>, Refusal>
     ensures { result ≡ from_str text.now }
 {
-    if 4096 < text.len() {
+    if LIMIT < text.len() {
         return Err(stream::bare_refusal(Reason::TextTooLong));
     }
     let told = length_at(text, Place(0));
