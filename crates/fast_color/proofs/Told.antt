@@ -4,7 +4,7 @@ use mathlib.Core.Bool.{false}
 use mathlib.Core.List.{List}
 use mathlib.Core.Path.{◌≡◌, refl, ap}
 use native.Mathlib.Omega.{arith}
-use borrow.Author.Tests.{le-ltb}
+use borrow.Author.Tests.{le-leb, le-ltb}
 use lib.Dec.{ltb}
 use lib.ListN.{length}
 use Rattle.std.specs.Prelude.{Result, Ok, Err, Option, Some, None}
@@ -13,8 +13,9 @@ use Rattle.text_bytes.specs.Bytes.{is_space}
 use Rattle.text_bytes.specs.Scan.{scan}
 use Rattle.text_bytes.specs.declared.Place.{Place}
 use Rattle.text_bytes.proofs.Scans.{scan_past}
+use Rattle.utf8.specs.Characters.{utf8_of}
 use Rattle.stream.specs.Faults.{invalid_value}
-use Rattle.stream.specs.Refusals.{number_of, empty_refusal, refusal_of, admit_text}
+use Rattle.stream.specs.Refusals.{number_of, empty_refusal, refusal_of, admit_utf8, admit_text}
 use Rattle.stream.specs.declared.Read.{Read}
 use Rattle.stream.specs.declared.Reason.TheVariants as R
 use Rattle.stream.specs.declared.Refusal.{Refusal}
@@ -49,12 +50,18 @@ pub ok_read : {A E : Type 0} (x : Result A E) {a : A} → result_ok x ≡ Some a
 ok_read (Ok b) {a} e = let z : b ≡ a = cc in rw z refl
 ok_read (Err x) e = no_some e
 
+-- a test that is passed
+passed : {E : Type 0} (x : Result (Unit {0}) E) → (result_ok x ≡ None → ⊥) → (result_ok x ≡ Some tt) × (x ≡ Ok tt)
+passed (Ok tt) h = (refl, refl)
+passed (Err e) h = absurd (h refl)
+
 pub admit_ok : (s : List ℕ) → (result_ok (admit_text s) ≡ None → ⊥) → (result_ok (admit_text s) ≡ Some tt) × (admit_text s ≡ Ok tt)
-admit_ok s h = go (admit_text s) h
-  where
-    go : (x : Result (Unit {0}) Refusal) → (result_ok x ≡ None → ⊥) → (result_ok x ≡ Some tt) × (x ≡ Ok tt)
-    go (Ok tt) h = (refl, refl)
-    go (Err e) h = absurd (h refl)
+admit_ok s h = passed (admit_text s) h
+
+-- of a short text UTF-8 alone is in question
+pub utf8_ok : (s : List ℕ) → length s ≤ 4096 → (result_ok (utf8_of s) ≡ None → ⊥) → (result_ok (utf8_of s) ≡ Some tt) × (admit_text s ≡ Ok tt)
+unfolding admit_text admit_utf8
+utf8_ok s l h = let k = passed (utf8_of s) h in (k.0, simp (le-leb (length s) 4096 l, k.1))
 
 -- a function that ends the text
 pub function_told : (s : List ℕ) (r : Read Color) → result_ok (parse_color s 0) ≡ Some r → length s ≤ r.next.0 → admit_text s ≡ Ok tt

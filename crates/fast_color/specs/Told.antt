@@ -20,6 +20,15 @@ told_or (Some (Ok v)) x = Ok v
 told_or (Some (Err p)) x = Err (empty_refusal (R.Unread T.InvalidValue) p.0)
 told_or None x = x
 
+-- a colour's number alone, and where a text was read to alone
+abbrev pub valued : Option ℕ → Option (Result ℕ Place)
+valued (Some v) = Some (Ok v)
+valued None = None
+
+abbrev pub invalid : Option Place → Option (Result ℕ Place)
+invalid (Some p) = Some (Err p)
+invalid None = None
+
 -- an empty text is refused otherwise, and one over the limit
 unfoldable pub refused : List ℕ → ℕ → Option (Result ℕ Place)
 refused s i = if ltb 0 (length s) && leb (length s) 4096 then Some (Err (place i)) else None

@@ -14,6 +14,7 @@ use Rattle.text_bytes.specs.Flow.{◌>>=◌}
 use Rattle.text_bytes.specs.Moves.{place}
 use Rattle.text_bytes.specs.Scan.{scan}
 use Rattle.text_bytes.specs.Words.{is_curr_byte_eq}
+use Rattle.text_bytes.proofs.Ahead.{scan_again}
 use Rattle.text_bytes.proofs.Ranges.{either}
 use Rattle.text_bytes.proofs.Wording.{curr_there, curr_inside, curr_byte}
 use Rattle.stream.specs.Faults.{consume_byte}
@@ -107,9 +108,11 @@ module _ (s : List ℕ) (at : ℕ) where
         simp (t, f, g)))
 
     pub alpha_is : result_ok (parse_alpha s at c)
-        ≡ (let i = scan is_space s at in if is_curr_byte_eq s i 41 then result_ok (close_bracket s i c)
+        ≡ (let i = scan is_space s at in if is_curr_byte_eq s i 41 then Some (record { value = c; next = place (i + 1) })
         else and_then (told_item (parse_list_number s i)) (λ r. result_ok (close_bracket s r.next.0 (rgba c.red c.green c.blue (scaled_channel r.value)))))
-    unfolding parse_alpha
+    unfolding parse_alpha close_bracket consume_byte
     alpha_is =
         let i = scan is_space s at in
-        either (is_curr_byte_eq s i 41) (λ t. simp t) (λ t. simp t (told_then (parse_list_number s i) _ _ (λ x. refl)))
+        let again = scan_again is_space s at in
+        either (is_curr_byte_eq s i 41) (λ t. simp (t, again, lt-leb (length s) i (curr_inside s i 41 refl t), curr_byte s i 41 refl t))
+        (λ t. simp t (told_then (parse_list_number s i) _ _ (λ x. refl)))

@@ -14,6 +14,8 @@ use text_bytes::Place;
 
 // A colour, spaces before it skipped; None where the plain reader reads none.
 // A slice is taken anew on its way: handed on whole it is copied by 16 bytes, which wait for the stores of its two halves.
+// Compiled into its callers, since what comes back would be copied so too.
+#[inline(always)]
 #[tactic(auto, using(crate::proofs::Openings::open_rgb, crate::proofs::Openings::open_rgba, crate::proofs::Openings::open_hsl, crate::proofs::Openings::open_hsla, text_bytes::proofs::Wording::word_ends, fast_numbers::proofs::Told::all_text))]
 pub fn told_color(text: &[u8], at: Place) -> Option<Read<Color>>
     ensures { result ≡ result_ok (parse_color text.now at.0) }
@@ -41,26 +43,32 @@ fn rgb(text: &[u8], at: Place) -> Option<Read<Color>>
     ensures { result ≡ result_ok (rgb_numbers text.now at.0) }
 {
     if let Some(first) = whole(text, at) {
-        return rgb_rest(text, first.next, first.value, false);
+        return rgb_rest(text, first.next, first.value, false, true);
     }
     let first = fast_numbers::number(&text[0..], at)?;
     let end = first.end;
     if text_bytes::is_curr_byte_eq(text, end, b'%') {
         let next = numbers::after_item(text, Place(end.0 + 1));
-        return rgb_rest(text, next, first.value, true);
+        return rgb_rest(text, next, first.value, true, false);
     }
-    rgb_rest(text, numbers::after_item(text, end), first.value, false)
+    rgb_rest(
+        text,
+        numbers::after_item(text, end),
+        first.value,
+        false,
+        false,
+    )
 }
 
-// Green and blue after red, which is marked or not.
+// Green and blue after red, which is marked or not; after a whole red they are tried as whole ones first.
 // The hint, here and below: an Option of a struct comes back by memory, and calls would make all a tenth slower.
 #[tactic(auto, using(crate::proofs::Tellings::rest_is))]
 #[inline(always)]
-fn rgb_rest(text: &[u8], at: Place, first: f64, marked: bool) -> Option<Read<Color>>
+fn rgb_rest(text: &[u8], at: Place, first: f64, marked: bool, wholes: bool) -> Option<Read<Color>>
     ensures { result ≡ result_ok (if marked then rgb_marked text.now at.0 first else rgb_plain text.now at.0 first) }
 {
-    let green = channel(text, at, marked)?;
-    let blue = channel(text, green.next, marked)?;
+    let green = channel(text, at, marked, wholes)?;
+    let blue = channel(text, green.next, marked, wholes)?;
     // divided and multiplied apart, so that it rounds as green and blue do
     let red = if marked {
         (first / 100.0) * 255.0
@@ -77,11 +85,19 @@ fn rgb_rest(text: &[u8], at: Place, first: f64, marked: bool) -> Option<Read<Col
 }
 
 // Green or blue, as `color` has it.
-#[tactic(auto, using(crate::proofs::Tellings::channel_is))]
+#[tactic(auto, using(crate::proofs::Tellings::channel_is, crate::proofs::Items::item_whole))]
 #[inline(always)]
-fn channel(text: &[u8], at: Place, marked: bool) -> Option<Read<u8>>
+fn channel(text: &[u8], at: Place, marked: bool, wholes: bool) -> Option<Read<u8>>
     ensures { result ≡ result_ok (channel text.now at.0 marked) }
 {
+    if wholes && !marked {
+        if let Some(read) = whole(text, at) {
+            return Some(Read {
+                value: floats::channel(read.value),
+                next: read.next,
+            });
+        }
+    }
     let read = item(text, at, marked)?;
     let value = if marked {
         read.value * 255.0
@@ -130,16 +146,11 @@ fn whole(text: &[u8], at: Place) -> Option<Read<f64>>
 }
 
 // A number of a list, and the place where the next may start; with `percent` a `%` after it makes it a share of one.
-#[tactic(auto, using(crate::proofs::Items::item_whole, crate::proofs::Items::item_none, crate::proofs::Items::item_some, crate::proofs::Items::share_none, crate::proofs::Items::share_marked, crate::proofs::Items::share_plain, text_bytes::proofs::Wording::curr_ends, fast_numbers::proofs::Told::all_text))]
+#[tactic(auto, using(crate::proofs::Items::item_none, crate::proofs::Items::item_some, crate::proofs::Items::share_none, crate::proofs::Items::share_marked, crate::proofs::Items::share_plain, text_bytes::proofs::Wording::curr_ends, fast_numbers::proofs::Told::all_text))]
 #[inline(always)]
 fn item(text: &[u8], at: Place, percent: bool) -> Option<Read<f64>>
     ensures { result ≡ told_item (if percent then parse_list_number_or_percent text.now at.0 else parse_list_number text.now at.0) }
 {
-    if !percent {
-        if let Some(read) = whole(text, at) {
-            return Some(read);
-        }
-    }
     let n = fast_numbers::number(&text[0..], at)?;
     let end = n.end;
     if percent && text_bytes::is_curr_byte_eq(text, end, b'%') {
@@ -155,14 +166,17 @@ fn item(text: &[u8], at: Place, percent: bool) -> Option<Read<f64>>
 }
 
 // The fourth number, unless the bracket stands there, and the bracket.
-#[tactic(auto, using(crate::proofs::Tellings::alpha_is))]
+#[tactic(auto, using(crate::proofs::Tellings::alpha_is, text_bytes::proofs::Wording::curr_ends))]
 #[inline(always)]
 fn alpha(text: &[u8], at: Place, color: Color) -> Option<Read<Color>>
     ensures { result ≡ result_ok (parse_alpha text.now at.0 color) }
 {
     let start = text_bytes::skip_spaces(text, at);
     if text_bytes::is_curr_byte_eq(text, start, b')') {
-        return closed(text, start, color);
+        return Some(Read {
+            value: color,
+            next: Place(start.0 + 1),
+        });
     }
     let n = item(text, start, false)?;
     let alpha = floats::channel(n.value * 255.0);

@@ -1,3 +1,4 @@
 pub mod Names
 pub mod Laws
 pub mod Shaded
+pub mod Rows

@@ -7,6 +7,7 @@ use Rattle.text_bytes.specs.Scan.{scan}
 use Rattle.text_bytes.specs.Words.{ascii, starts_with, is_curr_byte_eq}
 use Rattle.stream.specs.declared.Fault.{Fault}
 use Rattle.stream.specs.declared.Read.{Read}
+use Rattle.stream.specs.Steps.{edged}
 use Rattle.floats.specs.Floats.{sign_of}
 use Rattle.numbers.specs.Moves.{Number}
 use Rattle.numbers.specs.Number.{parse_number, parse_number_or_percent}
@@ -15,7 +16,7 @@ use Rattle.length.specs.declared.Length.{Length}
 use Rattle.angle.specs.declared.AngleUnit.TheVariants as W
 use Rattle.color.specs.Color.{parse_color}
 use Rattle.color.specs.declared.Color.{Color}
-use Rattle.filter_functions.specs.Filters.{listed}
+use Rattle.filter_functions.specs.Filters.{listed, parse_step}
 use Rattle.filter_functions.specs.Values.{is_percent, plain_value}
 use Rattle.filter_functions.specs.declared.FilterValue.{FilterValue}
 use Rattle.filter_functions.specs.declared.FilterValue.TheVariants as G
@@ -23,6 +24,7 @@ use Rattle.filter_functions.specs.declared.Listed.{Listed}
 use Rattle.filter_functions.specs.declared.Listed.TheVariants as I
 use Rattle.filter_functions.specs.declared.Plain.{Plain}
 use Rattle.filter_functions.specs.declared.Shadow.{Shadow}
+use Rattle.records.specs.Records.{filter_record}
 use Rattle.fast_numbers.specs.Told.{told_number}
 
 -- `?` of what may be untold
@@ -30,12 +32,12 @@ abbrev pub and_then : {A B : Type 0} → Option A → (A → Option B) → Optio
 and_then None f = None
 and_then (Some a) f = f a
 
--- what is told stands for x
-abbrev pub told_or : Result (Read Listed) Fault → Option (Read FilterValue) → Result (Read Listed) Fault
-told_or x None = x
-told_or x (Some r) = listed (I.Value r.value) r.next.0
+-- the row of the step at i where it is told, and else what was lent
+abbrev pub row_or : Option (Unit {0}) → List ℕ → ℕ → List ℕ → List ℕ
+row_or None s i lent = lent
+row_or (Some u) s i lent = filter_record (edged s (parse_step s i))
 
--- and so does a value that is told up to its closing bracket (41), if that stands there
+-- a value that is told up to its closing bracket (41) stands for x, if that stands there
 abbrev pub closed_or : List ℕ → Result (Read Listed) Fault → Option (Read FilterValue) → Result (Read Listed) Fault
 closed_or s x None = x
 closed_or s x (Some r) = if is_curr_byte_eq s r.next.0 41 then listed (I.Value r.value) (scan is_space s (r.next.0 + 1)) else x

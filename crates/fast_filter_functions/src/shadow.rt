@@ -7,10 +7,12 @@ ghost use Rattle.fast_filter_functions.specs.Told.{lengths_at, lengths_first, co
 use crate::values::{offset, radius};
 use color::Color;
 use filter_functions::{FilterValue, Shadow};
+use length::Length;
 use stream::Read;
 use text_bytes::Place;
 
 #[tactic(auto, unfolding(crate::specs::Told::shadow_at, text_bytes::specs::Bytes::within))]
+#[inline(always)]
 pub fn drop_shadow(text: &[u8], at: Place) -> Option<Read<FilterValue>>
     ensures { result ≡ shadow_at text.now at.0 }
 {
@@ -27,6 +29,7 @@ pub fn drop_shadow(text: &[u8], at: Place) -> Option<Read<FilterValue>>
 
 // Lengths, and a colour that may follow them.
 #[tactic(auto, unfolding(crate::specs::Told::lengths_first))]
+#[inline(always)]
 fn lengths_first(text: &[u8], at: Place) -> Option<Read<Shadow>>
     ensures { result ≡ lengths_first text.now at.0 }
 {
@@ -46,6 +49,7 @@ fn lengths_first(text: &[u8], at: Place) -> Option<Read<Shadow>>
 
 // A colour, and the lengths after it.
 #[tactic(auto, unfolding(crate::specs::Told::color_first))]
+#[inline(always)]
 fn color_first(text: &[u8], at: Place) -> Option<Read<Shadow>>
     ensures { result ≡ color_first text.now at.0 }
 {
@@ -56,11 +60,16 @@ fn color_first(text: &[u8], at: Place) -> Option<Read<Shadow>>
 fn color_at(text: &[u8], at: Place) -> Option<Read<Color>>
     ensures { result ≡ result_ok (parse_color text.now at.0) }
 {
-    fast_color::parse_color(text, at).ok()
+    let read = fast_color::parse_color(text, at).ok()?;
+    Some(Read {
+        value: read.value,
+        next: read.next,
+    })
 }
 
-// The lengths of a shadow of this colour.
+// The lengths of a shadow of this colour, handed on field by field.
 #[tactic(auto, unfolding(crate::specs::Told::lengths_at))]
+#[inline(always)]
 fn lengths(text: &[u8], at: Place, color: Option<Color>) -> Option<Read<Shadow>>
     ensures { result ≡ lengths_at text.now at.0 color }
 {
@@ -70,9 +79,18 @@ fn lengths(text: &[u8], at: Place, color: Option<Color>) -> Option<Read<Shadow>>
     Some(Read {
         value: Shadow {
             color,
-            dx: dx.value,
-            dy: dy.value,
-            deviation: deviation.value,
+            dx: Length {
+                number: dx.value.number,
+                unit: dx.value.unit,
+            },
+            dy: Length {
+                number: dy.value.number,
+                unit: dy.value.unit,
+            },
+            deviation: Length {
+                number: deviation.value.number,
+                unit: deviation.value.unit,
+            },
         },
         next: deviation.next,
     })

@@ -1,4 +1,5 @@
 // What the brackets of a filter function hold, a shadow's apart, where it is told at once.
+// Compiled into the writing of its kind, a value needs no way through memory, and no match on its kind.
 ghost use Rattle.std.specs.Prelude.{◌≡◌};
 ghost use Rattle.numbers.specs.Number.{parse_number_or_percent};
 ghost use Rattle.fast_filter_functions.specs.Told.{offset_at, radius_at, blur_at, degrees_at, told_value, plain_at, url_at};
@@ -9,7 +10,7 @@ use length::Length;
 use stream::Read;
 use text_bytes::{Part, Place};
 
-// A length that is no percentage.
+// A length that is no percentage. It is handed on field by field: copied whole, it waits for the stores of its fields.
 #[tactic(auto, unfolding(crate::specs::Told::offset_at))]
 pub fn offset(text: &[u8], at: Place) -> Option<Read<Length>>
     ensures { result ≡ offset_at text.now at.0 }
@@ -20,13 +21,17 @@ pub fn offset(text: &[u8], at: Place) -> Option<Read<Length>>
         return None;
     }
     Some(Read {
-        value: length,
+        value: Length {
+            number: length.number,
+            unit: length.unit,
+        },
         next: read.next,
     })
 }
 
 // Such a length that is not negative.
 #[tactic(auto, unfolding(crate::specs::Told::radius_at))]
+#[inline(always)]
 pub fn radius(text: &[u8], at: Place) -> Option<Read<Length>>
     ensures { result ≡ radius_at text.now at.0 }
 {
@@ -38,6 +43,7 @@ pub fn radius(text: &[u8], at: Place) -> Option<Read<Length>>
 }
 
 #[tactic(auto, unfolding(crate::specs::Told::blur_at))]
+#[inline(always)]
 pub fn blur(text: &[u8], at: Place) -> Option<Read<FilterValue>>
     ensures { result ≡ blur_at text.now at.0 }
 {
@@ -50,6 +56,7 @@ pub fn blur(text: &[u8], at: Place) -> Option<Read<FilterValue>>
 
 // A turn of the hue by degrees.
 #[tactic(auto, unfolding(crate::specs::Told::degrees_at), using(text_bytes::proofs::Wording::word_ends))]
+#[inline(always)]
 pub fn hue_rotate(text: &[u8], at: Place) -> Option<Read<FilterValue>>
     ensures { result ≡ degrees_at text.now at.0 }
 {
@@ -67,6 +74,7 @@ pub fn hue_rotate(text: &[u8], at: Place) -> Option<Read<FilterValue>>
 
 // The number of one of the seven plain functions.
 #[tactic(auto, unfolding(crate::specs::Told::plain_at))]
+#[inline(always)]
 pub fn plain(text: &[u8], at: Place, plain: Plain) -> Option<Read<FilterValue>>
     ensures { result ≡ plain_at text.now at.0 plain }
 {
@@ -82,6 +90,7 @@ pub fn plain(text: &[u8], at: Place, plain: Plain) -> Option<Read<FilterValue>>
 
 // A number, or the hundredth of a percentage.
 #[tactic(auto, using(crate::proofs::Laws::percent_none, crate::proofs::Laws::percent_marked, crate::proofs::Laws::percent_plain, text_bytes::proofs::Wording::curr_ends))]
+#[inline(always)]
 fn number_or_percent(text: &[u8], at: Place) -> Option<Read<f64>>
     ensures { result ≡ told_value (parse_number_or_percent text.now at.0) }
 {
@@ -101,6 +110,7 @@ fn number_or_percent(text: &[u8], at: Place) -> Option<Read<f64>>
 
 // A link, the `#` before it passed.
 #[tactic(auto, unfolding(crate::specs::Told::url_at))]
+#[inline(always)]
 pub fn url(text: &[u8], at: Place) -> Option<Read<FilterValue>>
     ensures { result ≡ url_at text.now at.0 }
 {

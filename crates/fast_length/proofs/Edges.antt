@@ -31,11 +31,11 @@ pub long : (s : List ℕ) → 4096 < length s → from_str s ≡ Err (bare_refus
 unfolding from_str admit_text
 long s h = simp (lt-leb (length s) 4096 h)
 
-plain : (s : List ℕ) (r : Read (Written Length)) → parse_length s 0 ≡ Ok r → Plain s 0 r.next.0
+pub length_plain : (s : List ℕ) (at : ℕ) (r : Read (Written Length)) → parse_length s at ≡ Ok r → Plain s at r.next.0
 unfolding parse_length
-plain s r q =
-    let v = bind_ok (parse_number s 0) _ q in
-    let w : Plain s 0 (v.0.next.0 + unit_width (unit_at s v.0.next.0)) = plain_trans (plain_known s 0 v.0 v.1.0) (unit_plain s v.0.next.0) in
+length_plain s at r q =
+    let v = bind_ok (parse_number s at) _ q in
+    let w : Plain s at (v.0.next.0 + unit_width (unit_at s v.0.next.0)) = plain_trans (plain_known s at v.0 v.1.0) (unit_plain s v.0.next.0) in
     let e : v.0.next.0 + unit_width (unit_at s v.0.next.0) ≡ r.next.0 = ap (λ (x : Result (Read (Written Length)) Fault). next_of x) v.1.1 in
     rw e at w
   where
@@ -49,7 +49,7 @@ pub filled : (s : List ℕ) (r : Read (Written Length)) → length s ≤ 4096 �
 unfolding from_str parse_whole admit_text admit_utf8
 filled s r l e h =
     let q = (told_ok (parse_length s 0) r e).1 in
-    let u = sym (ascii_utf8 s (sym (plain_text s r.next.0 (plain s r q) h)) refl) in
+    let u = sym (ascii_utf8 s (sym (plain_text s r.next.0 (length_plain s 0 r q) h)) refl) in
     (e, simp (le-leb (length s) 4096 l, u, q, le-ltb r.next.0 (length s) h))
 
 -- else what is read at the edge, and nothing left after it

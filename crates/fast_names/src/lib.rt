@@ -28,17 +28,17 @@ pub fn from_str(word: &[u8]) -> Option<u64>
     in_small_letters(word)
 }
 
-// What a word names in small letters.
-#[tactic(auto, using(crate::proofs::Small::lowered_std), unfolding(names::specs::Look::named_of))]
+// What a word names in small letters. Byte by byte: a whole copy is compiled to a call of the C library, which the archive is to do without.
+#[tactic(auto, using(crate::proofs::Small::lower_start, crate::proofs::Small::lower_go, crate::proofs::Small::lower_all), unfolding(names::specs::Look::named_of))]
 fn in_small_letters(word: &[u8]) -> Option<u64>
     requires { length word.now ≤ 20 }
     ensures { result ≡ named_number (named_of word.now) }
 {
-    let mut letters = [0; LONGEST];
-    let small = &mut letters[..word.len()];
-    small.copy_from_slice(word);
-    small.make_ascii_lowercase();
-    letters::look_up(small)
+    let mut small = [0; LONGEST];
+    for (i, b) in word.iter().enumerate() {
+        small[i] = text_bytes::to_ascii_lowercase(*b);
+    }
+    letters::look_up(&small[..word.len()])
 }
 
 fn has_capital(word: &[u8]) -> bool

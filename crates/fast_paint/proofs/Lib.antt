@@ -1,4 +1,5 @@
 pub mod Admits
+pub mod Answers
 pub mod Links
 pub mod Colors
 pub mod Trims

@@ -11,10 +11,12 @@ use lib.ListN.{length, get_or, take, drop, length-append}
 use lib.Seq.{get_or-drop}
 use Rattle.std.specs.Prelude.{Result, Ok, Err, Some, None, if◌then◌else◌}
 use Rattle.text_bytes.specs.Bytes.{within, is_space, is_other}
+use Rattle.text_bytes.specs.Flow.{◌>>=◌}
 use Rattle.text_bytes.specs.Moves.{place}
 use Rattle.text_bytes.specs.Scan.{run, scan}
 use Rattle.text_bytes.specs.Words.{ascii, same, starts_with, is_curr_byte_eq, part}
 use Rattle.text_bytes.specs.declared.Part.{Part}
+use Rattle.text_bytes.specs.declared.Place.{Place}
 use Rattle.text_bytes.proofs.Parts.{byte_inside}
 use Rattle.text_bytes.proofs.Ranges.{and_first, and_second, either, lt_or_le}
 use Rattle.text_bytes.proofs.Scans.{run_inside, scan_here}
@@ -22,24 +24,29 @@ use Rattle.text_bytes.proofs.Wording.{same_eq, begins_with, starts_first}
 use Rattle.utf8.specs.Blanks.{trim_end}
 use Rattle.utf8.specs.Characters.{keeps, row_of, len_at, char_len, walk, utf8_of}
 use Rattle.stream.specs.Faults.{invalid_value, consume_byte, consume_string}
-use Rattle.stream.specs.Refusals.{Inside, admit_text}
+use Rattle.stream.specs.Refusals.{Inside, number_of, reason_number, empty_refusal, refusal_of, at_edge, admit_text}
 use Rattle.stream.specs.declared.Fault.{Fault}
 use Rattle.stream.specs.declared.Read.{Read}
+use Rattle.stream.specs.declared.Reason.{Reason}
+use Rattle.stream.specs.declared.Reason.TheVariants as R
 use Rattle.stream.specs.declared.Refusal.{Refusal}
+use Rattle.stream.specs.declared.Trouble.TheVariants as T
 use Rattle.stream.proofs.Binds.{bind_ok, at_ok}
-use Rattle.stream.proofs.Edges.{Admitted, admit_holds, edge_ok}
+use Rattle.stream.proofs.Edges.{Admitted, admit_holds, admitted_utf8, edge_ok}
 use Rattle.stream.proofs.Sames.{curr_consumed}
 use Rattle.color.specs.Answer as color
 use Rattle.color.specs.Color.{parse_color_text}
 use Rattle.color.specs.declared.Color.{Color}
+use Rattle.color.proofs.Stretches.{text_lies}
 use Rattle.funciri.specs.Link.{is_quote, is_link, link_at, link_read, close_link, close_quote, quoted_link, parse_func_iri}
 use Rattle.paint.specs.Reading.{parse_fallback, parse_linked, parse_paint}
 use Rattle.paint.specs.declared.PaintFallback.{PaintFallback}
 use Rattle.paint.specs.declared.PaintFallback.TheVariants as F
+use Rattle.fast_color.proofs.Empty.{admit_low, fault_empty}
 use Rattle.fast_funciri.specs.Bare.{is_bare_byte}
 use Rattle.fast_funciri.proofs.Bare.{plain_quick, quoted_quick}
 use Rattle.fast_funciri.proofs.Links.{bare_ascii, url_named}
-use Rattle.fast_paint.specs.Links.{bare_link, told_link, color_fallback, told_fallback}
+use Rattle.fast_paint.specs.Links.{bare_link, told_link, fallback_refused, color_fallback, told_fallback}
 
 -- what a word that was seen says of the text
 pub word_inside : (w t : List ℕ) → starts_with w t ≡ true → (starts_with w t ≡ true) × (length w ≤ length t)
@@ -213,29 +220,71 @@ pub record Falls (x : List ℕ) (f : PaintFallback) : Type 0 where
   pub utf8 : utf8_of x ≡ Ok tt
   pub read : parse_fallback x ≡ Ok f
 
-module _ (x : List ℕ) (f : PaintFallback) where
-  colored : same x (ascii "none") ≡ false → same x (ascii "currentColor") ≡ false → color_fallback (color.from_str x) ≡ Some f → Falls x f
-  unfolding parse_fallback color.from_str
-  colored a b = go (color.from_str x) refl
-    where
-      go : (y : Result Color Refusal) → color.from_str x ≡ y → color_fallback y ≡ Some f → Falls x f
-      go (Err e) k h = no_some h
-      go (Ok c) k h =
-          let v = bind_ok (admit_text x) _ k in
-          let w = bind_ok {A = Read Color} _ _ v.1.1 in
-          let d = edge_ok x (parse_color_text x) w.1.0 in
-          let z : w.0.value ≡ c = cc (w.1.1) in
-          record {
-            utf8 = (at_ok (λ _. Admitted x) (Inside (length x)) (admit_text x) v.0 (admit_holds x) v.1.0).utf8;
-            read = simp (a, b, d, z) (ap (λ (g : PaintFallback). Ok g) (given h));
-          }
+-- and one that is refused by 5 at p, a place of its own text
+pub record Stops (x : List ℕ) (p : Place) : Type 0 where
+  pub utf8 : utf8_of x ≡ Ok tt
+  pub fault : Fault
+  pub read : parse_fallback x ≡ Err fault
+  pub empty : refusal_of x fault ≡ empty_refusal (R.Unread T.InvalidValue) p.0
 
-  word_falls : (w : List ℕ) (g : PaintFallback) → same x w ≡ true → utf8_of w ≡ Ok tt → parse_fallback w ≡ Ok g → Some g ≡ Some f → Falls x f
-  word_falls w g s u p h = rw (same_eq x w s) (record { utf8 = u; read = p ∙ ap (λ (k : PaintFallback). Ok k) (given h) })
+-- what is told of a fallback's text
+abbrev pub Tells : List ℕ → Result PaintFallback Place → Type 0
+Tells x (Ok f) = Falls x f
+Tells x (Err p) = Stops x p
 
-  pub falls : told_fallback x ≡ Some f → Falls x f
+-- what is told of a refusal is told of a 5
+five_told : (r : Reason) (p : Place) (d : Result PaintFallback Place) → fallback_refused r p ≡ Some d → (reason_number r ≡ 5) × (Err p ≡ d)
+unfolding reason_number number_of
+five_told (R.Unread T.InvalidValue) p d h = (refl, given h)
+five_told r p d h = no_some h
+
+module _ (x : List ℕ) where
+  -- a text that may be read, of which no keyword is told
+  module _ (a : same x (ascii "none") ≡ false) (b : same x (ascii "currentColor") ≡ false) where
+    color_falls : (c : Color) → color.from_str x ≡ Ok c → Falls x (F.Color c)
+    unfolding parse_fallback color.from_str
+    color_falls c k =
+        let v = bind_ok (admit_text x) _ k in
+        let w = bind_ok {A = Read Color} _ _ v.1.1 in
+        let d = edge_ok x (parse_color_text x) w.1.0 in
+        let z : w.0.value ≡ c = cc (w.1.1) in
+        record {
+          utf8 = (at_ok (λ _. Admitted x) (Inside (length x)) (admit_text x) v.0 (admit_holds x) v.1.0).utf8;
+          read = simp (a, b, d) (ap (λ g. Ok (F.Color g)) z);
+        }
+
+    color_stops : (e : Refusal) → color.from_str x ≡ Err e → reason_number e.reason ≡ 5 → Stops x e.from
+    unfolding parse_fallback color.from_str refusal_of reason_number
+    color_stops e k n = go (admit_text x) refl (parse_color_text x) refl k
+      where
+        same_err : {g : Refusal} → ◌≡◌ {A = Result Color Refusal} (Err g) (Err e) → g ≡ e
+        same_err h = cc
+
+        go : (y : Result (Unit {0}) Refusal) → admit_text x ≡ y → (r : Result (Read Color) Fault) → parse_color_text x ≡ r
+            → (y >>= (λ _. at_edge x r >>= (λ (c : Read Color). Ok c.value))) ≡ Err e → Stops x e.from
+        go (Ok u) h (Ok c) l o = cc
+        go (Ok u) h (Err f) l o =
+            let z = same_err o in
+            let m : number_of f.trouble ≡ 5 = rw (← z) at n in
+            let w : Stops x f.from = record { utf8 = admitted_utf8 x h; fault = f; read = simp (a, b, l); empty = fault_empty x f (text_lies x f l) m } in
+            rw (← z) w
+        go (Err g) h r l o = absurd (omega (arith, n, admit_low x e (rw (same_err o) at h)))
+
+    colored : (d : Result PaintFallback Place) → color_fallback (color.from_str x) ≡ Some d → Tells x d
+    colored d = go (color.from_str x) refl
+      where
+        go : (y : Result Color Refusal) → color.from_str x ≡ y → color_fallback y ≡ Some d → Tells x d
+        go (Ok c) k h = let z : Ok (F.Color c) ≡ d = given h in rw (← z) (color_falls c k)
+        go (Err e) k h = let v = five_told e.reason e.from d h in rw (← v.1) (color_stops e k v.0)
+
+  word_falls : (w : List ℕ) (g : PaintFallback) (d : Result PaintFallback Place) → same x w ≡ true → utf8_of w ≡ Ok tt → parse_fallback w ≡ Ok g → Some (Ok g) ≡ Some d → Tells x d
+  word_falls w g d s u p h =
+      let z : Ok g ≡ d = given h in
+      rw (← z) (rw (same_eq x w s) (record { utf8 = u; read = p }))
+
+  pub falls : (d : Result PaintFallback Place) → told_fallback x ≡ Some d → Tells x d
   unfolding told_fallback parse_fallback utf8_of walk char_len len_at row_of keeps within same
-  falls e =
-      either (same x (ascii "none")) (λ a. word_falls (ascii "none") F.None a refl refl (simp a at e))
-      (λ a. either (same x (ascii "currentColor")) (λ b. word_falls (ascii "currentColor") F.CurrentColor b refl refl (simp (a, b) at e))
-      (λ b. colored a b (simp (a, b) at e)))
+  falls d e =
+      either (same x (ascii "none")) (λ a. word_falls (ascii "none") F.None d a refl refl (simp a at e))
+      (λ a. either (same x (ascii "currentColor")) (λ b. word_falls (ascii "currentColor") F.CurrentColor d b refl refl (simp (a, b) at e))
+      (λ b. colored a b d (simp (a, b) at e)))

@@ -34,7 +34,7 @@ use Rattle.paint.specs.declared.Paint.{Paint}
 use Rattle.paint.specs.declared.PaintFallback.{PaintFallback}
 use Rattle.fast_color.specs.Told.{told_or}
 use Rattle.fast_paint.specs.Links.{told_link, told_fallback, link_number, told_linked}
-use Rattle.fast_paint.specs.Told.{some_or, told_inner, numbered}
+use Rattle.fast_paint.specs.Told.{told_inner, numbered}
 use Rattle.fast_paint.specs.Visible.{is_visible}
 use Rattle.fast_paint.proofs.Admits.{admitted, front_utf8, ascii_before}
 use Rattle.fast_paint.proofs.Colors.{inner, Right, plain_right}
@@ -43,7 +43,7 @@ use Rattle.fast_paint.proofs.Trims.{between, trimmed_from, trimmed_is, trimmed_u
 
 -- a trimmed text
 module _ (by : ℕ) (t : List ℕ) (small : length t ≤ 4096) where
-  link_go : (x : Option (Read Part)) → told_link t ≡ x → Right (some_or (link_number by t x) None) (inner by t)
+  link_go : (x : Option (Read Part)) → told_link t ≡ x → Right (link_number by t x) (inner by t)
   unfolding numbered told_or inner parse_trimmed parse_linked move_paint
   link_go None e = refl
   link_go (Some r) e = either (leb (length t) i) alone (λ h. fallback h (told_fallback (drop i t)) refl)
@@ -57,18 +57,22 @@ module _ (by : ℕ) (t : List ℕ) (small : length t ≤ 4096) where
           (λ (l : r.next.0 ≤ j). space_ascii (get_or t j 0) (scan_bytes is_space t r.next.0 j l h))
           (lt_or_le j r.next.0)
 
-      alone : leb (length t) i ≡ true → Right (some_or (link_number by t (Some r)) None) (inner by t)
+      alone : leb (length t) i ≡ true → Right (link_number by t (Some r)) (inner by t)
       alone h =
           let v = linked t r e in
           let u : utf8_of t ≡ Ok tt = rw (take_all i t (leb-true (length t) i h)) at (front_utf8 i t front) in
           simp (admitted t small u, linked_first t v.begins, v.read, h)
 
-      fallback : leb (length t) i ≡ false → (f : Option PaintFallback) → told_fallback (drop i t) ≡ f → Right (some_or (link_number by t (Some r)) None) (inner by t)
+      fallback : leb (length t) i ≡ false → (f : Option (Result PaintFallback Place)) → told_fallback (drop i t) ≡ f → Right (link_number by t (Some r)) (inner by t)
       fallback h None k = simp (h, k)
-      fallback h (Some f) k =
+      fallback h (Some (Ok f)) k =
           let v = linked t r e in
-          let w = falls (drop i t) f k in
+          let w = falls (drop i t) (Ok f) k in
           simp (admitted t small (ascii_before i t front w.utf8), linked_first t v.begins, v.read, h, k, w.read)
+      fallback h (Some (Err p)) k =
+          let v = linked t r e in
+          let w = falls (drop i t) (Err p) k in
+          simp (admitted t small (ascii_before i t front w.utf8), linked_first t v.begins, v.read, h, k, w.read, w.empty)
 
   inner_right : Right (told_inner by t) (inner by t)
   unfolding told_inner told_linked

@@ -1,3 +1,4 @@
 pub mod Told
 pub mod Links
 pub mod Visible
+pub mod Empty

@@ -1,12 +1,16 @@
--- A link and its fallback, without a refusal. Only contracts inside the crate speak of them.
+-- A link and its fallback, without a refusal but a fallback's by 5. Only contracts inside the crate speak of them.
 use Rattle.std.specs.Prelude.{ℕ, ◌+◌, ◌-◌, ◌&&◌, List, [], ◌∷◌, ◌++◌, leb, ltb, length, drop, Result, Ok, Err, Option, Some, None, if◌then◌else◌}
 use Rattle.text_bytes.specs.Bytes.{is_space}
 use Rattle.text_bytes.specs.Moves.{place, move_part}
 use Rattle.text_bytes.specs.Scan.{scan}
 use Rattle.text_bytes.specs.Words.{ascii, same, starts_with}
 use Rattle.text_bytes.specs.declared.Part.{Part}
+use Rattle.text_bytes.specs.declared.Place.{Place}
 use Rattle.stream.specs.declared.Read.{Read}
+use Rattle.stream.specs.declared.Reason.{Reason}
+use Rattle.stream.specs.declared.Reason.TheVariants as R
 use Rattle.stream.specs.declared.Refusal.{Refusal}
+use Rattle.stream.specs.declared.Trouble.TheVariants as T
 use Rattle.color.specs.Answer as color
 use Rattle.color.specs.declared.Color.{Color}
 use Rattle.funciri.specs.Link.{link_at, link_read}
@@ -30,29 +34,35 @@ told_link t =
     else (if starts_with (ascii "url(" ++ (34 ∷ 35 ∷ [])) t then bare_link t 6 (34 ∷ 41 ∷ [])
     else None))
 
--- the fallback that a colour's answer is
-abbrev pub color_fallback : Result Color Refusal → Option PaintFallback
-color_fallback (Ok c) = Some (F.Color c)
-color_fallback (Err e) = None
+-- a refusal, told where it is by 5
+abbrev pub fallback_refused : Reason → Place → Option (Result PaintFallback Place)
+fallback_refused (R.Unread T.InvalidValue) p = Some (Err p)
+fallback_refused r p = None
 
-unfoldable pub told_fallback : List ℕ → Option PaintFallback
+-- the fallback that a colour's answer is, or where it was refused by 5
+abbrev pub color_fallback : Result Color Refusal → Option (Result PaintFallback Place)
+color_fallback (Ok c) = Some (Ok (F.Color c))
+color_fallback (Err e) = fallback_refused e.reason e.from
+
+unfoldable pub told_fallback : List ℕ → Option (Result PaintFallback Place)
 told_fallback f =
-    if same f (ascii "none") then Some F.None
-    else (if same f (ascii "currentColor") then Some F.CurrentColor
+    if same f (ascii "none") then Some (Ok F.None)
+    else (if same f (ascii "currentColor") then Some (Ok F.CurrentColor)
     else color_fallback (color.from_str f))
 
--- a link's number, with a fallback that is told
-abbrev pub fallback_number : Part → Option PaintFallback → Option ℕ
-fallback_number link (Some f) = Some (paint_number (P.FuncIRI link (Some f)))
+-- a link's number, with a fallback that is told; where it was refused counts in the fallback's own bytes
+abbrev pub fallback_number : Part → Option (Result PaintFallback Place) → Option (Result ℕ Place)
+fallback_number link (Some (Ok f)) = Some (Ok (paint_number (P.FuncIRI link (Some f))))
+fallback_number link (Some (Err p)) = Some (Err p)
 fallback_number link None = None
 
-abbrev pub link_number : ℕ → List ℕ → Option (Read Part) → Option ℕ
+abbrev pub link_number : ℕ → List ℕ → Option (Read Part) → Option (Result ℕ Place)
 link_number by t (Some r) =
     let link = move_part by r.value in
     let i = scan is_space t r.next.0 in
-    if leb (length t) i then Some (paint_number (P.FuncIRI link None)) else fallback_number link (told_fallback (drop i t))
+    if leb (length t) i then Some (Ok (paint_number (P.FuncIRI link None))) else fallback_number link (told_fallback (drop i t))
 link_number by t None = None
 
 -- a text that begins with a link, with `by` bytes trimmed before it
-unfoldable pub told_linked : ℕ → List ℕ → Option ℕ
+unfoldable pub told_linked : ℕ → List ℕ → Option (Result ℕ Place)
 told_linked by t = link_number by t (told_link t)

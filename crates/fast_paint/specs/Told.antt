@@ -43,7 +43,7 @@ told_plain t = some_or (keyword_of t) (told_color (color_or (from_str t)))
 
 -- a trimmed text, with `by` bytes trimmed before it; `u` (117) begins no other paint than a link
 unfoldable pub told_inner : ℕ → List ℕ → Option (Result ℕ Place)
-told_inner by t = if is_curr_byte_eq t 0 117 then some_or (told_linked by t) None else told_plain t
+told_inner by t = if is_curr_byte_eq t 0 117 then told_linked by t else told_plain t
 
 -- an answer, with its paint's number
 unfoldable pub numbered : Result Paint Refusal → Result ℕ Refusal

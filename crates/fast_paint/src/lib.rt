@@ -7,10 +7,11 @@ ghost use Rattle.fast_color.specs.Told.{told_or};
 ghost use Rattle.fast_paint.specs.Links.{bare_link, told_link, told_fallback, told_linked};
 ghost use Rattle.fast_paint.specs.Told.{keyword_of, uncolored, told_plain, told_inner, numbered};
 ghost use Rattle.fast_paint.specs.Visible.{has_visible_ends, is_visible};
+ghost use Rattle.fast_paint.specs.Empty.{FiveEmpty};
 
 use packed::{NO_COLOR, PLACES};
 use paint::{Paint, PaintFallback};
-use stream::{LIMIT, Read};
+use stream::{LIMIT, Read, Reason, Trouble};
 use text_bytes::{Part, Place};
 
 mod numbered;
@@ -74,24 +75,29 @@ fn told_link(text: &[u8]) -> Option<Read<Part>>
     None
 }
 
-// The fallback that a text is; None for a text that is refused.
+// The fallback that a text is, or where one that is refused by 5 was read to. None for another refusal: the plain reader has its position.
 #[tactic(auto, unfolding(crate::specs::Links::told_fallback))]
-fn told_fallback(text: &[u8]) -> Option<PaintFallback>
+fn told_fallback(text: &[u8]) -> Option<Result<PaintFallback, Place>>
     ensures { result ≡ told_fallback text.now }
 {
     if text_bytes::equals(text, b"none") {
-        return Some(PaintFallback::None);
+        return Some(Ok(PaintFallback::None));
     }
     if text_bytes::equals(text, b"currentColor") {
-        return Some(PaintFallback::CurrentColor);
+        return Some(Ok(PaintFallback::CurrentColor));
     }
-    let color = fast_color::from_str(text).ok()?;
-    Some(PaintFallback::Color(color))
+    match fast_color::from_str(text) {
+        Ok(color) => Some(Ok(PaintFallback::Color(color))),
+        Err(e) => match e.reason {
+            Reason::Unread(Trouble::InvalidValue) => Some(Err(e.from)),
+            _ => None,
+        },
+    }
 }
 
-// The number of a link and of what follows it: spaces, and a fallback unless the text ends there. `from` is where trimming left the text.
+// The number of a link and of what follows it: spaces, and a fallback unless the text ends there. `from` is where trimming left the text; where a fallback was read to counts in its own bytes.
 #[tactic(auto, unfolding(crate::specs::Links::told_linked, paint::specs::Moves::link_start, packed::specs::Links::link_len), using(crate::proofs::Links::link_inside, text_bytes::proofs::Parts::rest_part))]
-fn told_linked(text: &[u8], from: Place) -> Option<u64>
+fn told_linked(text: &[u8], from: Place) -> Option<Result<u64, Place>>
     requires { from.0 + length text.now ≤ 4096 }
     ensures { result ≡ told_linked from.0 text.now }
 {
@@ -103,10 +109,12 @@ fn told_linked(text: &[u8], from: Place) -> Option<u64>
     };
     let base = text_bytes::skip_spaces(text, read.next);
     if text.len() <= base.0 {
-        return Some(packed::paint_number(Paint::FuncIRI(link, None)));
+        return Some(Ok(packed::paint_number(Paint::FuncIRI(link, None))));
     }
-    let fallback = told_fallback(&text[base.0..])?;
-    Some(packed::paint_number(Paint::FuncIRI(link, Some(fallback))))
+    match told_fallback(&text[base.0..])? {
+        Ok(fallback) => Some(Ok(packed::paint_number(Paint::FuncIRI(link, Some(fallback))))),
+        Err(at) => Some(Err(at)),
+    }
 }
 
 // A text that is no link: a keyword, a colour, or no paint.
@@ -131,7 +139,7 @@ fn told_inner(text: &[u8], from: Place) -> Option<Result<u64, Place>>
     ensures { result ≡ told_inner from.0 text.now }
 {
     if text_bytes::is_curr_byte_eq(text, Place(0), b'u') {
-        return Some(Ok(told_linked(text, from)?));
+        return told_linked(text, from);
     }
     told_plain(text)
 }
@@ -195,3 +203,9 @@ fn told(text: &[u8]) -> Option<Result<u64, Place>>
     let start = part.start.0;
     told_inner(&text[start..start + part.len], part.start)
 }
+
+// Does nothing: its contract is the theorem that a refusal by 5 has no more to tell than its place.
+#[tactic(auto, using(crate::proofs::Answers::five_empty))]
+pub fn five_empty()
+    ensures { FiveEmpty }
+{}

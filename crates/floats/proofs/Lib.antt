@@ -1,4 +1,5 @@
 pub mod Rounding
+pub mod Narrowing
 pub mod Channels
 pub mod Bounds
 pub mod Turns

@@ -8,7 +8,7 @@ ghost use Rattle.floats.specs.Floats.{narrowed, channel_of, clamped, sign_of, d3
 
 // x rounded to an `f32`: to the nearest, a tie to the even one. Past the largest `f32` it is an infinity; a NaN gives a NaN.
 // Std has it under this name: `x as f32` asks that nothing is lost.
-#[tactic(auto, using(crate::proofs::Library::narrowed_is_rounded))]
+#[tactic(auto, using(crate::proofs::Library::narrowed_is_rounded, crate::proofs::Library::tie_even))]
 pub fn narrow(x: f64) -> f32
     ensures { result ≡ narrowed x }
 {

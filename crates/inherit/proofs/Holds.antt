@@ -8,14 +8,14 @@ use Rattle.text_bytes.specs.declared.Part.{Part}
 use Rattle.text_bytes.specs.Words.{part_bytes}
 use Rattle.text_bytes.proofs.Parts.{part_inside as inside_part}
 use Rattle.text_bytes.proofs.Ranges.{either}
-use Rattle.utf8.specs.Blanks.{trim_part}
+use Rattle.utf8.specs.Blanks.{trim_part, trim_of}
 use Rattle.stream.specs.Refusals.{Inside, admit_text}
 use Rattle.stream.specs.declared.Refusal.{Refusal}
 use Rattle.stream.proofs.Binds.{bind_holds, bind_known, at_ok, at_err, weaker}
 use Rattle.paint.specs.Answers.{from_str, at_hand}
 use Rattle.paint.proofs.Stretches.{stretch_inside}
 use Rattle.paint.proofs.Trims.{trim_fits}
-use Rattle.inherit.specs.Rule.{is_inherit, is_empty, says, chosen, said_for, asked, or_higher, inherited_of, theirs, bytes_of}
+use Rattle.inherit.specs.Rule.{is_inherit, is_empty, says, chosen, said_for, asked, or_higher, inherited_of, theirs, bytes_of, inherited_part}
 use Rattle.inherit.specs.declared.Chosen.{Chosen}
 use Rattle.inherit.specs.declared.Whose.{Whose}
 use Rattle.inherit.specs.declared.Whose.TheVariants as W
@@ -56,14 +56,19 @@ asked_holds w s = go (says s) (says_holds s)
 
 module _ (own parent : List ℕ) where
   pub record Inner (a : Option Chosen) : Type 0 where
+    pub trimmed : (c : Chosen) → a ≡ Some c → c.part ≡ trim_part (theirs own parent c.whose)
     pub inside : (c : Chosen) → a ≡ Some c → c.part.start.0 + c.part.len ≤ length (theirs own parent c.whose)
 
   pub record Refused (e : WhoseRefusal) : Type 0 where
     pub inside : Inside (length (at_hand (theirs own parent e.whose))) e.refusal
 
   told_inside : (w : Whose) (a : Option Chosen) → Tells w (theirs own parent w) a → Inner a
-  told_inside w (Some c) chose = record { inside = λ d e. let z : c ≡ d = cc in rw (← z) (trim_fits (theirs own parent w)) }
-  told_inside w None up = record { inside = λ d e. cc }
+  told_inside w (Some c) chose =
+      record {
+        trimmed = λ d e. let z : c ≡ d = cc in rw (← z) refl;
+        inside = λ d e. let z : c ≡ d = cc in rw (← z) (trim_fits (theirs own parent w));
+      }
+  told_inside w None up = record { trimmed = λ d e. cc; inside = λ d e. cc }
 
   refused_inside : (w : Whose) (e : WhoseRefusal) → Refuses w (theirs own parent w) e → Refused e
   refused_inside w e v = record { inside = rw v.whose v.inside }
@@ -86,6 +91,19 @@ module _ (own parent : List ℕ) where
       → (inherited_of own parent ≡ Ok (Some a)) × (part_bytes (theirs own parent a.whose) a.part ≡ bytes_of (theirs own parent a.whose) a.part)
   unfolding bytes_of
   part_inside a q = (q, inside_part (theirs own parent a.whose) a.part ((at_ok Inner Refused (inherited_of own parent) (Some a) inherited_holds q).inside a refl))
+
+  -- the bytes that are handed out are what trimming leaves of the text that is chosen
+  bytes_trimmed : (a : Chosen) → inherited_of own parent ≡ Ok (Some a) → trim_of (theirs own parent a.whose) ≡ inherited_part own parent
+  unfolding inherited_part bytes_of trim_of trim_part
+  bytes_trimmed a q =
+      let w : a.part ≡ trim_part (theirs own parent a.whose) = (at_ok Inner Refused (inherited_of own parent) (Some a) inherited_holds q).trimmed a refl in
+      simp q (rw w refl)
+
+  pub part_own : (a : Chosen) → inherited_of own parent ≡ Ok (Some a) → a.whose ≡ W.Own → trim_of own ≡ inherited_part own parent
+  part_own a q e = rw e at (bytes_trimmed a q)
+
+  pub part_parent : (a : Chosen) → inherited_of own parent ≡ Ok (Some a) → a.whose ≡ W.Parent → trim_of parent ≡ inherited_part own parent
+  part_parent a q e = rw e at (bytes_trimmed a q)
 
   -- THEOREM. A refusal's stretch starts and ends in the text at hand of the one that is refused, and not before it starts
   pub inherited_inside : (e : WhoseRefusal) → inherited_of own parent ≡ Err e → Inside (length (at_hand (theirs own parent e.whose))) e.refusal

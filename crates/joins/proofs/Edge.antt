@@ -10,7 +10,7 @@ use lib.Dec.{leb, eqb}
 use lib.ListN.{length, get_or, length-append, get_or-append, get_or-eq_default}
 use Rattle.std.specs.Prelude.{Result, Ok, Err, MatchResult, ⊤}
 use Rattle.text_bytes.specs.Bytes.{within, is_space, is_tail}
-use Rattle.text_bytes.specs.Moves.{place}
+use Rattle.text_bytes.specs.Moves.{place, move_place}
 use Rattle.text_bytes.specs.Scan.{scan}
 use Rattle.text_bytes.specs.declared.Place.{Place}
 use Rattle.text_bytes.proofs.Ahead.{scan_again, scan_kept}
@@ -31,6 +31,7 @@ use Rattle.stream.proofs.Edges.{admitted_small, admitted_utf8, on_last, refusal_
 use Rattle.stream.specs.Steps.{edged, refused_step}
 use Rattle.filter_functions.specs.Filters.{parse_step, next_filter, value_step, end_step, none_step}
 use Rattle.filter_functions.specs.Filters.{FilterStep}
+use Rattle.filter_functions.specs.Moves.{move_listed}
 use Rattle.filter_functions.specs.declared.FilterValue.{FilterValue}
 use Rattle.filter_functions.specs.declared.Listed.{Listed}
 use Rattle.filter_functions.specs.declared.Listed.TheVariants as I
@@ -176,19 +177,25 @@ module _ (a b : List ℕ) (u : utf8_of a ≡ Ok tt) (w : utf8_of b ≡ Ok tt) (l
   admits_seam : Admits (a ++ b) (length a + 0)
   admits_seam = record { small = l; utf8 = utf8_both; on = on_shift a b u 0 ∙ on_start b }
 
-  -- shift: a text put in front moves every answer, and a place of b that is refused too
-  pub next_shift : (i : ℕ) → next_filter (a ++ b) (length a + i) ≡ move_step (length a) (characters a) (next_filter b i)
+  -- shift: a text put in front moves every answer,
+  edge_shift : (i : ℕ) (t : Bool) (x : Result (Read Listed) Fault)
+      → cond t (edged (a ++ b) (moved move_step_read (length a) x)) (refused_step (bare_refusal R.BadListPlace) (place (length a + i)))
+      ≡ move_step (length a) (characters a) (cond t (edged b x) (refused_step (bare_refusal R.BadListPlace) (place i)))
   unfolding move_step reason_number
+  edge_shift i true (Ok r) = listed r.value r.next
+    where
+      listed : (y : Listed) (p : Place) → read_step (move_listed (length a) y) (move_place (length a) p) ≡ move_step (length a) (characters a) (read_step y p)
+      listed (I.Value v) p = refl
+      listed I.End p = refl
+      listed I.NoneWord p = refl
+  edge_shift i true (Err f) = rw (length-append a b, refusal_shift a b f u) refl
+  edge_shift i false x = refl
+
+  -- and a place of b that is refused too
+  pub next_shift : (i : ℕ) → next_filter (a ++ b) (length a + i) ≡ move_step (length a) (characters a) (next_filter b i)
   next_shift i =
       rw (next_placed (a ++ b) (length a + i) l utf8_both, next_placed b i (omega (arith, length-append a b)) w, on_shift a b u i, step_shift a b i)
-      (go (on_character b i) (parse_step b i))
-    where
-      go : (t : Bool) (x : Result (Read Listed) Fault)
-          → cond t (edged (a ++ b) (moved move_step_read (length a) x)) (refused_step (bare_refusal R.BadListPlace) (place (length a + i)))
-          ≡ move_step (length a) (characters a) (cond t (edged b x) (refused_step (bare_refusal R.BadListPlace) (place i)))
-      go true (Ok r) = refl
-      go true (Err f) = rw (length-append a b, refusal_shift a b f u) refl
-      go false x = refl
+      (edge_shift i (on_character b i) (parse_step b i))
 
 module _ (s : List ℕ) (i : ℕ) (v : FilterValue) (p : Place) (e : next_filter s i ≡ value_step v p) where
   stepped : Stepped s i p

@@ -3,6 +3,7 @@ use Prim.Native.Nat.{ℕ, zero, suc, ◌+◌, ◌≤◌, ◌<◌}
 use mathlib.Core.List.{List, [], ◌∷◌, ◌++◌, append_assoc}
 use mathlib.Core.Path.{◌≡◌, sym, ◌∙◌}
 use native.Mathlib.Nat.{add-zero}
+use native.Mathlib.Numerals.{add-one}
 use native.Mathlib.Omega.{arith}
 use lib.ListN.{length, take, drop, get_or, set}
 use lib.Seq.{paste, paste-zero, paste-suc, take-paste, drop-paste, take_all, take-append-add, drop-drop}
@@ -20,6 +21,10 @@ module _ (o : List ℕ) (at : ℕ) (r : List ℕ) where
 
 pub byte_stored : (o : List ℕ) (at b : ℕ) → at < length o → set o at b ≡ paste o at (b ∷ []) 1
 byte_stored o at b h = rw (← paste-zero o at (b ∷ []), add-zero at) at (paste-suc o at (b ∷ []) 0 0 (omega arith) (omega arith))
+
+-- the loop that copies: one entry more
+pub paste_on : (o : List ℕ) (at : ℕ) (v : List ℕ) (k : ℕ) → at + length v ≤ length o → k < length v → set (paste o at v k) (at + k) (get_or v k 0) ≡ paste o at v (k + 1)
+paste_on o at v k l h = rw (add-one) (paste-suc o at v k 0 (omega arith) h)
 
 -- two parts stored, one behind the other
 pub parts : {p q : List ℕ} (o : List ℕ) (at : ℕ) (a b : List ℕ) (i j : ℕ) → p ≡ paste o at a i → q ≡ paste p (at + i) b j → length a ≡ i → j ≤ length b → at + (i + j) ≤ length o

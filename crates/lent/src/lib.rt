@@ -14,11 +14,14 @@ pub fn put_byte(out: &mut [u8], at: usize, b: u8)
 }
 
 // At a place of what is lent, and not into a part of it: so docs/PROMISES.md has it.
+// Byte by byte: std's `copy_from_slice` is compiled to a call of the C library, which the archive is to do without.
 pub fn put(out: &mut [u8], at: usize, text: &[u8])
     requires { at + length text.now ≤ length out.old }
     ensures { out.new ≡ paste out.old at text.now (length text.now) }
 {
-    out[at..at + text.len()].copy_from_slice(text);
+    for (k, b) in text.iter().enumerate() {
+        out[at + k] = *b;
+    }
 }
 
 // A number without leading zeros; how many digits it has. Promised (docs/PROMISES.md), though no crate calls it.

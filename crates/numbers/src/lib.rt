@@ -96,13 +96,29 @@ fn read_held(text: &[u8], at: Place, a: u64, most: u64) -> Read<u64>
     }
 }
 
-// The digits at a place, held at 2^53.
+// The digits at a place, held at 2^53. A loop of its own: below 2^53 no product overflows, and at it the digits that are left only
+// end the run, where `read_held` looks for both at each digit.
+#[tactic(auto, unfolding(text_bytes::specs::Bytes::within), using(crate::proofs::Sums::summed))]
 pub fn read_digits(text: &[u8], at: Place, a: u64) -> Read<u64>
     requires { a ≤ cap }
     ensures next { result.next.0 ≡ scan is_digit text.now at.0 }
     ensures value { result.value ≡ min cap (value a (drop at.0 text.now)) }
 {
-    read_held(text, at, a, LIMIT)
+    let mut i = at.0;
+    let mut n = a;
+    while i < text.len() && text_bytes::is_digit(text[i]) {
+        let more = n * 10 + (text[i] - b'0') as u64;
+        i += 1;
+        if LIMIT <= more {
+            let next = text_bytes::skip_digits(text, Place(i));
+            return Read { value: LIMIT, next };
+        }
+        n = more;
+    }
+    Read {
+        value: n,
+        next: Place(i),
+    }
 }
 
 // Whether a number may start with a byte.

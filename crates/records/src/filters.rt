@@ -9,6 +9,7 @@ use length::Length;
 use text_bytes::Place;
 
 #[tactic(auto, using(crate::proofs::Shadows::shadow_none, crate::proofs::Shadows::shadow_some))]
+#[inline(always)]
 pub fn shadow(out: &mut [u64; 24], d: Shadow, place: Place)
     ensures { out.new ≡ filter_row place.0 (FilterValue.DropShadow d) }
 {
@@ -28,7 +29,9 @@ fn measured(l: Length) -> [u64; 2]
     [entries::bits_of(l.number), entries::length_unit(l.unit)]
 }
 
+// A value, and the list place. Compiled into its callers, it needs no match where the kind is known, and no way through memory.
 #[tactic(auto, unfolding(crate::specs::Records::filter_row, filter_functions::specs::Paper::result))]
+#[inline(always)]
 pub fn write_value(out: &mut [u64; 24], value: FilterValue, place: Place)
     ensures { out.new ≡ filter_row place.0 value }
 {

@@ -14,7 +14,7 @@ pub use answers::{
     refused, write_angle, write_color, write_inherited, write_length, write_link, write_paint,
 };
 pub use entries::{angle_unit, bits_of, length_unit};
-pub use filters::shadow;
+pub use filters::{shadow, write_value};
 pub use steps::{write_filter, write_length_step};
 
 // What a row tells of a list. No list has a row with the state of a value, too.

@@ -1,13 +1,13 @@
 // A row, written straight into the entries that are lent, case by case.
 // Built beside them and then copied, all of its values would be live at one place, and most would be spilled there.
-ghost use Rattle.std.specs.Prelude.{◌≡◌, [], ◌∷◌, ◌+◌, ◌≤◌};
+ghost use Rattle.std.specs.Prelude.{◌≡◌, [], ◌∷◌, ◌+◌, ◌≤◌, length};
 ghost use Rattle.std.proofs.Math.Seq.{paste};
 ghost use Rattle.stream.specs.Paper.{paper_refusal};
 ghost use Rattle.records.specs.Records.{row, found_row, end_row, color_entries};
 
 use color::Color;
 use stream::{Reason, Refusal, Trouble};
-use text_bytes::{Part, Place};
+use text_bytes::Place;
 
 // A third of a row. Entry by entry, since a loop is compiled to a call that fills or copies memory.
 #[tactic(auto, using(crate::proofs::Stores::eight_stored))]
@@ -47,49 +47,21 @@ fn position_of(e: Refusal) -> u64
     }
 }
 
+// What one reason alone tells: a place, the bytes found and wanted, and where a part starts and how long it is.
 #[tactic(auto, unfolding(stream::specs::Paper::paper_refusal))]
-fn place_of(e: Refusal) -> Place
-    ensures { result ≡ (paper_refusal e).place }
+fn told_by(e: Refusal) -> [u64; 5]
+    ensures { result ≡ (paper_refusal e).place.0 ∷ (paper_refusal e).found ∷ (paper_refusal e).wanted ∷ (paper_refusal e).part.start.0 ∷ (paper_refusal e).part.len ∷ [] }
 {
+    let from = e.from.0 as u64;
     match e.reason {
-        Reason::IllFormed => e.from,
-        _ => Place(0),
-    }
-}
-
-#[tactic(auto, unfolding(stream::specs::Paper::paper_refusal))]
-fn found_of(e: Refusal) -> u64
-    ensures { result ≡ (paper_refusal e).found }
-{
-    match e.reason {
-        Reason::Unread(Trouble::InvalidChar { found, .. }) => found as u64,
-        _ => 0,
-    }
-}
-
-#[tactic(auto, unfolding(stream::specs::Paper::paper_refusal))]
-fn wanted_of(e: Refusal) -> u64
-    ensures { result ≡ (paper_refusal e).wanted }
-{
-    match e.reason {
-        Reason::Unread(Trouble::InvalidChar { wanted, .. }) => wanted as u64,
-        _ => 0,
-    }
-}
-
-#[tactic(auto, unfolding(stream::specs::Paper::paper_refusal))]
-fn part_of(e: Refusal) -> Part
-    ensures { result ≡ (paper_refusal e).part }
-{
-    match e.reason {
-        Reason::Unread(Trouble::InvalidString) => Part {
-            start: e.from,
-            len: e.to.0.saturating_sub(e.from.0),
-        },
-        _ => Part {
-            start: Place(0),
-            len: 0,
-        },
+        Reason::IllFormed => [from, 0, 0, 0, 0],
+        Reason::Unread(Trouble::InvalidChar { found, wanted }) => {
+            [0, found as u64, wanted as u64, 0, 0]
+        }
+        Reason::Unread(Trouble::InvalidString) => {
+            [0, 0, 0, from, e.to.0.saturating_sub(e.from.0) as u64]
+        }
+        _ => [0, 0, 0, 0, 0],
     }
 }
 
@@ -98,8 +70,7 @@ fn part_of(e: Refusal) -> Part
 pub fn refused(out: &mut [u64; 24], e: Refusal, state: u64, place: Place)
     ensures { out.new ≡ row (paper_refusal e) state place.0 [] }
 {
-    let at = place_of(e);
-    let part = part_of(e);
+    let [at, found, wanted, start, len] = told_by(e);
     let from = e.from.0 as u64;
     let to = e.to.0 as u64;
     eight(
@@ -107,11 +78,11 @@ pub fn refused(out: &mut [u64; 24], e: Refusal, state: u64, place: Place)
         0,
         e.reason.number() as u64,
         position_of(e),
-        at.0 as u64,
-        found_of(e),
-        wanted_of(e),
-        part.start.0 as u64,
-        part.len as u64,
+        at,
+        found,
+        wanted,
+        start,
+        len,
         state,
     );
     eight(out, 8, place.0 as u64, 0, 0, 0, 0, 0, 0, 0);
@@ -141,8 +112,8 @@ pub fn ended(out: &mut [u64; 24], state: u64, place: Place)
 
 // A colour in a row.
 #[tactic(auto, using(crate::proofs::Stores::four_stored))]
-pub fn color(out: &mut [u64; 24], at: usize, c: Color)
-    requires { at + 4 ≤ 24 }
+pub fn color(out: &mut [u64], at: usize, c: Color)
+    requires { at + 4 ≤ length out.old }
     ensures { out.new ≡ paste out.old at (color_entries c) 4 }
 {
     out[at] = c.red as u64;

@@ -1,52 +1,58 @@
 // A case line, taken apart, and its answer.
-use crate::fields::{Unanswered, place, split_field, text};
+use crate::fields::{Text, Unanswered, place, split_field, text};
 use crate::lines::Answer;
+use crate::out::Line;
 use inherit::Whose;
 use records::State;
-use std::alloc::{AllocError, Global};
+use std::fmt;
 use text_bytes::Place;
 
 // A call, and what it is made on: a text, with a place where it is a step of a list; of the inherit rule the own text and the parent's.
-#[derive(Drop)]
-pub enum Case {
-    Color(Vec<u8>),
-    Length(Vec<u8>),
-    Lengths(Vec<u8>, Place),
-    Angle(Vec<u8>),
-    Iri(Vec<u8>),
-    FuncIri(Vec<u8>),
-    Paint(Vec<u8>),
-    Inherit(Vec<u8>, Vec<u8>),
-    Filter(Vec<u8>, Place),
+#[derive(Clone, Copy)]
+pub enum Case<'a> {
+    Color(&'a [u8]),
+    Length(&'a [u8]),
+    Lengths(&'a [u8], Place),
+    Angle(&'a [u8]),
+    Iri(&'a [u8]),
+    FuncIri(&'a [u8]),
+    Paint(&'a [u8]),
+    Inherit(&'a [u8], &'a [u8]),
+    Filter(&'a [u8], Place),
 }
 
 // Two fields: the place stands before the text.
-fn placed(alloc: Global, fields: &str) -> Result<(Vec<u8>, Place), Unanswered> {
+fn placed<'a>(room: &'a mut Text, fields: &str) -> Result<(&'a [u8], Place), Unanswered> {
     let (before, field) = split_field(fields)?;
-    Ok((text(alloc, field)?, place(before)?))
+    Ok((text(room, field)?, place(before)?))
 }
 
-impl Case {
-    pub fn parse(alloc: Global, line: &[u8]) -> Result<Case, Unanswered> {
+impl<'a> Case<'a> {
+    // Each text stands in a room, the parent's of the inherit rule in the second.
+    pub fn parse(
+        line: &[u8],
+        first: &'a mut Text,
+        second: &'a mut Text,
+    ) -> Result<Case<'a>, Unanswered> {
         let line = str::from_utf8(line).map_err(|_| Unanswered::NoCase)?;
         let (call, fields) = split_field(line)?;
         match call {
-            "color" => Ok(Case::Color(text(alloc, fields)?)),
-            "length" => Ok(Case::Length(text(alloc, fields)?)),
+            "color" => Ok(Case::Color(text(first, fields)?)),
+            "length" => Ok(Case::Length(text(first, fields)?)),
             "lengths" => {
-                let (list, at) = placed(alloc, fields)?;
+                let (list, at) = placed(first, fields)?;
                 Ok(Case::Lengths(list, at))
             }
-            "angle" => Ok(Case::Angle(text(alloc, fields)?)),
-            "iri" => Ok(Case::Iri(text(alloc, fields)?)),
-            "funciri" => Ok(Case::FuncIri(text(alloc, fields)?)),
-            "paint" => Ok(Case::Paint(text(alloc, fields)?)),
+            "angle" => Ok(Case::Angle(text(first, fields)?)),
+            "iri" => Ok(Case::Iri(text(first, fields)?)),
+            "funciri" => Ok(Case::FuncIri(text(first, fields)?)),
+            "paint" => Ok(Case::Paint(text(first, fields)?)),
             "inherit" => {
                 let (own, parent) = split_field(fields)?;
-                Ok(Case::Inherit(text(alloc, own)?, text(alloc, parent)?))
+                Ok(Case::Inherit(text(first, own)?, text(second, parent)?))
             }
             "filter" => {
-                let (list, at) = placed(alloc, fields)?;
+                let (list, at) = placed(first, fields)?;
                 Ok(Case::Filter(list, at))
             }
             _ => Err(Unanswered::NoCase),
@@ -85,31 +91,31 @@ impl Case {
         }
     }
 
-    // The answer line.
-    pub fn answer(&self, alloc: Global) -> Result<String, AllocError> {
+    // Puts the answer into a line.
+    pub fn answer(&self, line: &mut Line) -> fmt::Result {
         let row = self.row();
         let text = self.text(&row);
-        let mut answer = Answer::new(alloc, &row, text)?;
+        let mut answer = Answer::new(line, &row, text)?;
         let [_, _, _, _, _, _, _, state, place, ..] = row;
         match self {
-            Case::Color(_) => answer.put_color()?,
-            Case::Length(_) => answer.put_length()?,
+            Case::Color(_) => answer.put_color(),
+            Case::Length(_) => answer.put_length(),
             Case::Lengths(..) => {
                 answer.put_step(state, place)?;
-                answer.put_length()?;
+                answer.put_length()
             }
-            Case::Angle(_) => answer.put_angle()?,
-            Case::Iri(_) | Case::FuncIri(_) => answer.put_link(text)?,
-            Case::Paint(_) => answer.put_paint()?,
-            Case::Inherit(..) => answer.put_inherited(text)?,
+            Case::Angle(_) => answer.put_angle(),
+            Case::Iri(_) | Case::FuncIri(_) => answer.put_link(text),
+            Case::Paint(_) => answer.put_paint(),
+            Case::Inherit(..) => answer.put_inherited(text),
             Case::Filter(..) => {
                 answer.put_step(state, place)?;
                 // Only a value has a result.
                 if state == State::Value.number() {
                     answer.put_filter()?;
                 }
+                Ok(())
             }
         }
-        Ok(answer.into_line())
     }
 }

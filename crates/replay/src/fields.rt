@@ -1,30 +1,30 @@
 // The fields of a case line: a place, a text in hex.
 use hex::FromHexError;
-use std::alloc::{AllocError, Global};
+use std::fmt;
 use text_bytes::Place;
 
 // No text is longer.
-const TEXT: usize = 8192;
+pub const TEXT: usize = 8192;
+
+// The room of a text.
+pub type Text = [u8; TEXT];
 
 // Why a line has no answer.
 #[derive(Clone, Copy, Debug, PartialEq, Eq)]
 pub enum Unanswered {
     NoCase,
-    NoMemory,
+    NoRoom,
 }
 
-impl From<AllocError> for Unanswered {
-    fn from(_: AllocError) -> Unanswered {
-        Unanswered::NoMemory
+impl From<fmt::Error> for Unanswered {
+    fn from(_: fmt::Error) -> Unanswered {
+        Unanswered::NoRoom
     }
 }
 
 impl From<FromHexError> for Unanswered {
-    fn from(e: FromHexError) -> Unanswered {
-        match e {
-            FromHexError::OutOfMemory => Unanswered::NoMemory,
-            _ => Unanswered::NoCase,
-        }
+    fn from(_: FromHexError) -> Unanswered {
+        Unanswered::NoCase
     }
 }
 
@@ -41,13 +41,15 @@ pub fn place(field: &str) -> Result<Place, Unanswered> {
     field.parse().map(Place).map_err(|_| Unanswered::NoCase)
 }
 
-// A text: hex in small letters alone, where `decode` takes capitals, `-` for no byte.
-pub fn text(alloc: Global, field: &str) -> Result<Vec<u8>, Unanswered> {
+// A text, at the start of its room: hex in small letters alone, where `decode_to_slice` takes capitals, `-` for no byte.
+pub fn text<'a>(room: &'a mut Text, field: &str) -> Result<&'a [u8], Unanswered> {
     if field == "-" {
-        return Ok(Vec::new(alloc));
+        return Ok(&room[..0]);
     }
     if field.is_empty() || 2 * TEXT < field.len() || field.bytes().any(|b| b.is_ascii_uppercase()) {
         return Err(Unanswered::NoCase);
     }
-    Ok(hex::decode(alloc, field)?)
+    let text = &mut room[..field.len() / 2];
+    hex::decode_to_slice(field, text)?;
+    Ok(text)
 }

@@ -1,5 +1,5 @@
 // A call's row of numbers, as the crate `records` lays it out, written as an answer of the line protocol.
-use std::alloc::{AllocError, Global};
+use crate::out::Line;
 use std::fmt;
 use std::fmt::Write;
 use text_bytes::{Part, Place};
@@ -48,6 +48,9 @@ fn name(names: &[&'static str], n: u64) -> &'static str {
     names.get(n as usize).copied().unwrap_or("")
 }
 
+// So many bytes are written at once.
+const PIECE: usize = 64;
+
 // Bytes in hex, `-` for none.
 #[derive(Clone, Copy)]
 struct Hex<'a>(&'a [u8]);
@@ -57,8 +60,11 @@ impl fmt::Display for Hex<'_> {
         if self.0.is_empty() {
             return f.write_str("-");
         }
-        for b in self.0 {
-            write!(f, "{b:02x}")?;
+        let mut room = [0; 2 * PIECE];
+        for piece in self.0.chunks(PIECE) {
+            let digits = room.get_mut(..2 * piece.len()).ok_or(fmt::Error)?;
+            hex::encode_to_slice(piece, digits).map_err(|_| fmt::Error)?;
+            f.write_str(str::from_utf8(digits).map_err(|_| fmt::Error)?)?;
         }
         Ok(())
     }
@@ -84,43 +90,39 @@ fn base_number(number: u64) -> u64 {
 
 // An answer line, and the result's entries, which stand in the row behind the refusal's and a list's.
 #[derive(Drop)]
-pub struct Answer {
-    line: String,
+pub struct Answer<'a> {
+    line: &'a mut Line,
     entries: Entries,
 }
 
-impl Answer {
+impl<'a> Answer<'a> {
     // A line that has the refusal, as each begins.
-    pub fn new(alloc: Global, row: &[u64; 24], text: &[u8]) -> Result<Answer, AllocError> {
+    pub fn new(line: &'a mut Line, row: &[u64; 24], text: &[u8]) -> Result<Answer<'a>, fmt::Error> {
         let [number, position, place, found, wanted, start, len, ..] = *row;
         let base = base_number(number);
         let string = part(text, start, len);
-        let line = format!(in alloc; "{base} {position} {place} {found} {wanted} {string}")?;
+        write!(line, "{base} {position} {place} {found} {wanted} {string}")?;
         let mut entries = [0; 15];
         entries.copy_from_slice(&row[9..]);
         Ok(Answer { line, entries })
     }
 
-    pub fn into_line(self) -> String {
-        self.line
-    }
-
     // A list's state and place.
-    pub fn put_step(&mut self, state: u64, place: u64) -> Result<(), AllocError> {
+    pub fn put_step(&mut self, state: u64, place: u64) -> fmt::Result {
         write!(self.line, " {} {place}", name(&STATES, state))
     }
 
-    pub fn put_color(&mut self) -> Result<(), AllocError> {
+    pub fn put_color(&mut self) -> fmt::Result {
         let [red, green, blue, alpha, ..] = self.entries;
         write!(self.line, " {red} {green} {blue} {alpha}")
     }
 
-    pub fn put_length(&mut self) -> Result<(), AllocError> {
+    pub fn put_length(&mut self) -> fmt::Result {
         let [bits, unit, ..] = self.entries;
         write!(self.line, " {bits:016x} {}", name(&LENGTH_UNITS, unit))
     }
 
-    pub fn put_angle(&mut self) -> Result<(), AllocError> {
+    pub fn put_angle(&mut self) -> fmt::Result {
         let [bits, unit, degrees, ..] = self.entries;
         write!(
             self.line,
@@ -130,12 +132,12 @@ impl Answer {
     }
 
     // A link's start and length, and its bytes.
-    pub fn put_link(&mut self, text: &[u8]) -> Result<(), AllocError> {
+    pub fn put_link(&mut self, text: &[u8]) -> fmt::Result {
         let [start, len, ..] = self.entries;
         write!(self.line, " {start} {len} {}", part(text, start, len))
     }
 
-    pub fn put_inherited(&mut self, text: &[u8]) -> Result<(), AllocError> {
+    pub fn put_inherited(&mut self, text: &[u8]) -> fmt::Result {
         let [whose, start, len, ..] = self.entries;
         let whose = name(&WHOSE, whose);
         write!(
@@ -145,7 +147,7 @@ impl Answer {
         )
     }
 
-    pub fn put_paint(&mut self) -> Result<(), AllocError> {
+    pub fn put_paint(&mut self) -> fmt::Result {
         let [kind, start, len, fallback, red, green, blue, alpha, ..] = self.entries;
         let kind = name(&PAINTS, kind);
         let fallback = name(&FALLBACKS, fallback);
@@ -156,7 +158,7 @@ impl Answer {
     }
 
     // A shadow's lengths, and its colour as one field.
-    fn put_shadow(&mut self) -> Result<(), AllocError> {
+    fn put_shadow(&mut self) -> fmt::Result {
         let [
             _,
             dx,
@@ -181,7 +183,7 @@ impl Answer {
         write!(self.line, " {red},{green},{blue},{alpha}")
     }
 
-    pub fn put_filter(&mut self) -> Result<(), AllocError> {
+    pub fn put_filter(&mut self) -> fmt::Result {
         let [kind, a, b, ..] = self.entries;
         let kind = name(&FILTERS, kind);
         write!(self.line, " {kind}")?;

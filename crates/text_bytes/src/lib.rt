@@ -45,18 +45,19 @@ pub fn is_hex_digit(b: u8) -> bool
     matches!(b, b'0'..=b'9' | b'a'..=b'f' | b'A'..=b'F')
 }
 
+// By `||`, which LLVM makes one test of; of `matches!` it makes three, which each skip of spaces would take.
 pub fn is_space(b: u8) -> bool
     ensures { result ≡ is_space b }
 {
-    matches!(b, b' ' | b'\t' | b'\n' | b'\r')
+    b == b' ' || b == b'\t' || b == b'\n' || b == b'\r'
 }
 
-// A byte of a word.
+// A byte of a word. Small letters, which most of them are, are seen first.
 #[tactic(auto, unfolding(crate::specs::Bytes::within))]
 pub fn is_ascii_ident(b: u8) -> bool
     ensures { result ≡ is_ascii_ident b }
 {
-    matches!(b, b'0'..=b'9' | b'A'..=b'Z' | b'a'..=b'z' | b'-' | b'_')
+    matches!(b, b'a'..=b'z' | b'0'..=b'9' | b'A'..=b'Z' | b'-' | b'_')
 }
 
 // A byte that continues a character.

@@ -114,6 +114,10 @@ pub row_7 : (b : ℕ) → 241 ≤ b → b < 244 → 7 ≡ row_of table b
 unfolding row_of within
 row_7 b = row_at 7 241 3 tt b
 
+pub row_past : (b : ℕ) → 245 ≤ b → b < 256 → 9 ≡ row_of table b
+unfolding row_of within
+row_past b = row_at 9 245 11 tt b
+
 keeps_le : (rs : List Range) (xs : List ℕ) → keeps rs xs ≡ true → length rs ≤ length xs
 unfolding keeps
 keeps_le [] xs e = omega arith
@@ -218,3 +222,23 @@ char_le (x ∷ xs) = go (char_len (x ∷ xs)) refl
     go : (n : ℕ) → char_len (x ∷ xs) ≡ n → n ≤ suc (length xs)
     go zero e = omega arith
     go (suc n) e = omega (arith, char_inside x xs n e)
+
+pub row_none : (rs : List Row) (n : ℕ) (xs : List ℕ) → length rs ≤ n → 0 ≡ len_at rs n xs
+unfolding len_at
+row_none [] n xs h = refl
+row_none (r ∷ rs) zero xs h = absurd (omega arith)
+row_none (r ∷ rs) (suc n) xs h = row_none rs n xs (omega arith)
+
+-- a number that is none of the rows'
+pub row_other : (n : ℕ) (xs : List ℕ) → (n ≡ 0 → ⊥) → (n ≡ 1 → ⊥) → (n ≡ 2 → ⊥) → (n ≡ 3 → ⊥) → (n ≡ 4 → ⊥) → (n ≡ 5 → ⊥) → (n ≡ 6 → ⊥) → (n ≡ 7 → ⊥) → (n ≡ 8 → ⊥)
+    → 0 ≡ len_at table n xs
+row_other n xs a b c d e f g h k = row_none table n xs (high (middle (low_rows n a b c) d e f) g h k)
+  where
+    low_rows : (n : ℕ) → (n ≡ 0 → ⊥) → (n ≡ 1 → ⊥) → (n ≡ 2 → ⊥) → 3 ≤ n
+    low_rows n a b c = omega arith
+
+    middle : {n : ℕ} → 3 ≤ n → (n ≡ 3 → ⊥) → (n ≡ 4 → ⊥) → (n ≡ 5 → ⊥) → 6 ≤ n
+    middle l a b c = omega arith
+
+    high : {n : ℕ} → 6 ≤ n → (n ≡ 6 → ⊥) → (n ≡ 7 → ⊥) → (n ≡ 8 → ⊥) → 9 ≤ n
+    high l a b c = omega arith

@@ -1,8 +1,8 @@
 -- The walk of the UTF-8 test: its loop, the test of ASCII before it, and what it says of a text that is cut or joined.
 use Prim.Native.Nat.{ℕ, zero, suc, ◌+◌, ◌-◌, ◌^◌, ◌≤◌, ◌<◌}
-use mathlib.Core.Bool.{Bool, true, false, cond}
+use mathlib.Core.Bool.{Bool, true, false, ◌&&◌, cond}
 use mathlib.Core.List.{List, [], ◌∷◌, ◌++◌}
-use mathlib.Core.Path.{◌≡◌, refl, sym, ◌∙◌}
+use mathlib.Core.Path.{◌≡◌, refl, sym, ap, ◌∙◌}
 use native.Mathlib.Omega.{arith}
 use borrow.Author.Tests.{eq-eqb, ne_eqb, lt-ltb, ltb-true}
 use lib.Dec.{eqb, ltb, eqb-suc-zero}
@@ -14,7 +14,7 @@ use Rattle.std.specs.Prelude.{Ok, Err}
 use Rattle.std.specs.Str.{IsAscii}
 use Rattle.utf8.specs.Characters.{char_len, is_ascii, walk, utf8_of, skip_chars}
 use Rattle.utf8.specs.Moves.{move_utf8}
-use Rattle.text_bytes.proofs.Ranges.{and_first, and_second}
+use Rattle.text_bytes.proofs.Ranges.{and_first, and_second, and_true}
 use Rattle.utf8.proofs.Octets.{char_le, char_inside, char_more, char_ascii}
 use Rattle.text_bytes.specs.Moves.{place}
 
@@ -129,6 +129,29 @@ ascii_utf8 s {r} q e = walk_end (walk_from s (length s) (rw (take-length s) (sym
 -- what std's `is_ascii` says
 pub std_ascii : (s : List ℕ) → IsAscii s → Ok tt ≡ utf8_of s
 std_ascii s f = ascii_utf8 s refl (ascii_all s (λ j h. f j))
+
+-- four bytes, each tested
+pub four_ascii : (s : List ℕ) (i : ℕ) → i + 4 ≤ length s
+    → (ltb (get_or s i 0) 128 && (ltb (get_or s (i + 1) 0) 128 && (ltb (get_or s (i + 2) 0) 128 && ltb (get_or s (i + 3) 0) 128))) ≡ is_ascii (take 4 (drop i s))
+unfolding is_ascii
+four_ascii s i h =
+    let a : i + 1 ≡ suc i = omega arith in
+    let b : i + 2 ≡ suc (suc i) = omega arith in
+    let d : i + 3 ≡ suc (suc (suc i)) = omega arith in
+    simp (
+      drop-cons s i 0 (omega arith),
+      drop-cons s (suc i) 0 (omega arith),
+      drop-cons s (suc (suc i)) 0 (omega arith),
+      drop-cons s (suc (suc (suc i))) 0 (omega arith),
+      a,
+      b,
+      d,
+      and_true,
+    )
+
+-- four bytes of ASCII are gone over at once
+pub walk_four : (s : List ℕ) (i : ℕ) → is_ascii (take 4 (drop i s)) ≡ true → walk i 0 (drop i s) ≡ walk (i + 4) 0 (drop (i + 4) s)
+walk_four s i e = walk_front 4 (drop i s) i e ∙ ap (λ l. walk (i + 4) 0 l) (drop-drop 4 i s)
 
 skip_past : (n : ℕ) (s : List ℕ) (i : ℕ) → length s ≤ i → skip_chars n s i ≡ i
 unfolding skip_chars char_len

@@ -1,6 +1,6 @@
 // UTF-8 by RFC 3629, and the characters of a text.
 ghost use Rattle.std.specs.Prelude.{◌≡◌, Ok, true, cond, ◌∷◌, [], ◌+◌, ◌<◌, ◌≤◌, max, length, take, drop};
-ghost use Rattle.utf8.specs.Characters.{table, row_of, len_at, char_len, is_ascii, utf8_of, calc_char_pos_at, skip_chars};
+ghost use Rattle.utf8.specs.Characters.{table, row_of, len_at, char_len, is_ascii, walk, utf8_of, calc_char_pos_at, skip_chars};
 
 use crate::Position;
 use text_bytes::{Place, byte_at, is_tail};
@@ -39,16 +39,33 @@ fn char_len(text: &[u8], at: Place) -> usize
     )
 }
 
-// Whether a text is UTF-8, and where not: the place of the first sequence that is ill formed. A loop: a turn is a whole character.
-#[tactic(auto, unfolding(crate::specs::Characters::utf8_of), using(crate::proofs::Walks::std_ascii, crate::proofs::Walks::walk_past, crate::proofs::Walks::walk_ill, crate::proofs::Walks::walk_on, crate::proofs::Walks::char_ends, crate::proofs::Walks::char_one))]
-pub fn utf8_test(text: &[u8]) -> Result<(), Place>
-    ensures { result ≡ utf8_of text.now }
+// Whether the four bytes from a place on are ASCII. No test waits for another, so that the four are compared at once.
+#[tactic(auto, using(crate::proofs::Walks::four_ascii))]
+fn four(text: &[u8], at: usize) -> bool
+    requires { at + 4 ≤ length text.now }
+    ensures { result ≡ is_ascii (take 4 (drop at text.now)) }
 {
-    // A short text is through the loop as soon.
-    if 8 <= text.len() && text.is_ascii() {
-        return Ok(());
-    }
+    (text[at] < 128) & ((text[at + 1] < 128) & ((text[at + 2] < 128) & (text[at + 3] < 128)))
+}
+
+// A place that ASCII alone stands before, where the walk may begin: gone to by fours.
+#[tactic(auto, unfolding(crate::specs::Characters::utf8_of), using(crate::proofs::Walks::walk_four))]
+fn ascii_front(text: &[u8]) -> usize
+    ensures { walk result 0 (drop result text.now) ≡ utf8_of text.now }
+{
     let mut i = 0;
+    while 4 <= text.len() - i && four(text, i) {
+        i += 4;
+    }
+    i
+}
+
+// The walk from a place on, where a character begins: a turn is a whole character.
+#[tactic(auto, using(crate::proofs::Walks::walk_past, crate::proofs::Walks::walk_ill, crate::proofs::Walks::walk_on, crate::proofs::Walks::char_ends, crate::proofs::Walks::char_one))]
+fn walk(text: &[u8], from: usize) -> Result<(), Place>
+    ensures { result ≡ walk from 0 (drop from text.now) }
+{
+    let mut i = from;
     while i < text.len() {
         // Of a run of ASCII no byte further on is looked at.
         let n = if text[i] < 128 {
@@ -62,6 +79,19 @@ pub fn utf8_test(text: &[u8]) -> Result<(), Place>
         i += n;
     }
     Ok(())
+}
+
+// Whether a text is UTF-8, and where not: the place of the first sequence that is ill formed. Compiled into its callers, whose texts are short.
+#[inline(always)]
+#[tactic(auto, using(crate::proofs::Walks::std_ascii))]
+pub fn utf8_test(text: &[u8]) -> Result<(), Place>
+    ensures { result ≡ utf8_of text.now }
+{
+    // A short text is through the walk as soon.
+    if 8 <= text.len() && text.is_ascii() {
+        return Ok(());
+    }
+    walk(text, ascii_front(text))
 }
 
 // The position of a place in a UTF-8 text, as the manual counts: from 1, "count every byte that does not continue a character" before it.
