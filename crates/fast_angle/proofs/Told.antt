@@ -1,21 +1,25 @@
 -- An angle whose number is told is what the definitions come to.
-use Prim.Native.Nat.{ℕ, ◌≤◌}
-use mathlib.Core.Bool.{true}
+use Prim.Native.Nat.{ℕ, ◌≤◌, ◌<◌}
+use mathlib.Core.Bool.{Bool, true, false, cond}
 use mathlib.Core.List.{List}
-use mathlib.Core.Path.{◌≡◌, refl}
+use mathlib.Core.Path.{◌≡◌, refl, sym, ap}
 use native.Mathlib.Omega.{arith}
-use borrow.Author.Tests.{le-ltb, lt-ltb, eqb-true, eqb-false}
+use borrow.Author.Tests.{le-leb, le-ltb, lt-leb, lt-ltb, ltb-false, eqb-true, eqb-false}
 use lib.Dec.{eqb, ltb}
 use lib.ListN.{length, drop_of_length-le}
 use Rattle.std.specs.Prelude.{Result, Ok, Err, Option, Some, None, if◌then◌else◌}
 use Rattle.std.specs.Result.{result_ok}
 use Rattle.text_bytes.specs.Words.{starts_with}
+use Rattle.text_bytes.specs.declared.Place.{Place}
 use Rattle.text_bytes.proofs.Ranges.{either}
+use Rattle.utf8.specs.Characters.{is_ascii, utf8_of}
+use Rattle.utf8.proofs.Walks.{ascii_utf8}
 use Rattle.stream.specs.Faults.{unexpected_data}
-use Rattle.stream.specs.Refusals.{at_edge, admit_text}
+use Rattle.stream.specs.Refusals.{bare_refusal, admit_utf8, admit_text}
 use Rattle.stream.specs.declared.Fault.{Fault}
 use Rattle.stream.specs.declared.Read.{Read}
-use Rattle.stream.specs.declared.Refusal.{Refusal}
+use Rattle.stream.specs.declared.Reason.TheVariants as R
+use Rattle.stream.proofs.Binds.{bind_ok}
 use Rattle.numbers.specs.Moves.{Number}
 use Rattle.numbers.specs.Number.{parse_number}
 use Rattle.numbers.proofs.Values.{number_known}
@@ -26,7 +30,8 @@ use Rattle.angle.specs.declared.AngleUnit.{AngleUnit}
 use Rattle.fast_angle.specs.Units.{ending, last_unit, angled}
 use Rattle.fast_angle.specs.Units as E
 use Rattle.fast_numbers.specs.Told.{told_number}
-use Rattle.fast_numbers.proofs.Told.{told_read, told_unread}
+use Rattle.fast_numbers.proofs.Plain.{Plain, plain_here, plain_known, plain_text, plain_trans, word_plain}
+use Rattle.fast_numbers.proofs.Told.{told_ok, told_read, told_unread}
 
 module _ (s : List ℕ) where
   pub none_told : told_number (parse_number s 0) ≡ None → result_ok (parse_whole s) ≡ None
@@ -55,16 +60,44 @@ module _ (s : List ℕ) where
         go h None = simp h
         go h (Some u) = either (ltb u.next.0 (length s)) (λ h. simp h) (λ h. simp h)
 
-pub refused : (s : List ℕ) (e : Refusal) → admit_text s ≡ Err e → (admit_text s ≡ Err e) × (from_str s ≡ Err e)
-unfolding from_str
-refused s e h = (h, simp h)
+pub long : (s : List ℕ) → 4096 < length s → from_str s ≡ Err (bare_refusal R.TextTooLong)
+unfolding from_str admit_text
+long s h = simp (lt-leb (length s) 4096 h)
 
--- what is told of an admitted text is what is read of it
-pub admitted_told : (s : List ℕ) (a : Written Angle) → admit_text s ≡ Ok tt → result_ok (parse_whole s) ≡ Some a
-    → (result_ok (parse_whole s) ≡ Some a) × (from_str s ≡ Ok a)
-unfolding from_str
-admitted_told s a h e = (e, simp h (go (parse_whole s) e))
-  where
-    go : (x : Result (Written Angle) Fault) → result_ok x ≡ Some a → at_edge s x ≡ Ok a
-    go (Ok b) q = cc
-    go (Err f) q = absurd (let z : ◌≡◌ {A = ℕ} 0 1 = cc in omega arith)
+module _ (s : List ℕ) where
+  unit_plain : (p : Place) → Plain s p.0 (or_degrees p (parse_unit s p.0)).next.0
+  unfolding parse_unit is_ascii
+  unit_plain p =
+      case _ _ _ (word_plain s p.0 _ refl) (case _ _ _ (word_plain s p.0 _ refl) (case _ _ _ (word_plain s p.0 _ refl) (case _ _ _ (word_plain s p.0 _ refl) (plain_here s p.0))))
+    where
+      case : (t : Bool) (a b : Option (Read AngleUnit)) → (t ≡ true → Plain s p.0 (or_degrees p a).next.0) → Plain s p.0 (or_degrees p b).next.0
+          → Plain s p.0 (or_degrees p (cond t a b)).next.0
+      case true a b h k = h refl
+      case false a b h k = k
+
+  angle_plain : (r : Read (Written Angle)) → parse_angle s 0 ≡ Ok r → Plain s 0 r.next.0
+  unfolding parse_angle
+  angle_plain r q =
+      let v = bind_ok (parse_number s 0) _ q in
+      let w : Plain s 0 (or_degrees v.0.next (parse_unit s v.0.next.0)).next.0 = plain_trans (plain_known s 0 v.0 v.1.0) (unit_plain v.0.next) in
+      let e : (or_degrees v.0.next (parse_unit s v.0.next.0)).next.0 ≡ r.next.0 = ap (λ (x : Result (Read (Written Angle)) Fault). next_of x) v.1.1 in
+      rw e at w
+    where
+      next_of : Result (Read (Written Angle)) Fault → ℕ
+      next_of (Ok a) = a.next.0
+      next_of (Err e) = 0
+
+  -- an angle that fills the text: its bytes are ASCII
+  whole_plain : (a : Written Angle) → parse_whole s ≡ Ok a → Ok tt ≡ utf8_of s
+  unfolding parse_whole
+  whole_plain a q =
+      let v = bind_ok (parse_angle s 0) _ q in
+      either (ltb v.0.next.0 (length s))
+      (λ h. let z : Err (unexpected_data s v.0.next.0) ≡ Ok a = simp h at v.1.1 in let y : ◌≡◌ {A = ℕ} 0 1 = cc in absurd (omega arith))
+      (λ h. ascii_utf8 s (sym (plain_text s v.0.next.0 (angle_plain v.0 v.1.0) (ltb-false v.0.next.0 (length s) h))) refl)
+
+  pub filled : (a : Written Angle) → length s ≤ 4096 → result_ok (parse_whole s) ≡ Some a → (result_ok (parse_whole s) ≡ Some a) × (from_str s ≡ Ok a)
+  unfolding from_str admit_text admit_utf8
+  filled a l e =
+      let q = (told_ok (parse_whole s) a e).1 in
+      (e, simp (le-leb (length s) 4096 l, sym (whole_plain a q), q))

@@ -8,14 +8,17 @@ ghost use Rattle.fast_angle.specs.Units.{last_unit, angled};
 
 use angle::{Angle, AngleUnit};
 use numbers::{Number, Written};
-use stream::Refusal;
+use stream::{LIMIT, Reason, Refusal};
 use text_bytes::Place;
 
-#[tactic(auto, using(crate::proofs::Told::admitted_told, crate::proofs::Told::refused))]
+// The bytes of an angle are ASCII: one that fills the text is told before the text is tested for UTF-8.
+#[tactic(auto, using(crate::proofs::Told::long, crate::proofs::Told::filled))]
 pub fn from_str(text: &[u8]) -> Result<Written<Angle>, Refusal>
     ensures { result ≡ from_str text.now }
 {
-    stream::admit_text(text)?;
+    if LIMIT < text.len() {
+        return Err(stream::bare_refusal(Reason::TextTooLong));
+    }
     match whole(text) {
         Some(angle) => Ok(angle),
         None => angle::from_str(text),

@@ -41,7 +41,7 @@ use Rattle.filter_functions.specs.declared.Plain.{Plain}
 use Rattle.filter_functions.specs.declared.Plain.TheVariants as P
 use Rattle.fast_numbers.specs.Told.{told_number}
 use Rattle.fast_numbers.proofs.Told.{told_read, told_unread}
-use Rattle.fast_length.proofs.Told.{told_ok}
+use Rattle.fast_numbers.proofs.Told.{told_ok}
 use Rattle.fast_filter_functions.specs.Told.{and_then, closed_or, offset_at, radius_at, blur_at, degrees_at, told_value, plain_at, url_at}
 use Rattle.fast_filter_functions.proofs.Names.{is_name, starts_curr, curr_still, closed}
 

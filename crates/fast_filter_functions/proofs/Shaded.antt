@@ -33,7 +33,7 @@ use Rattle.filter_functions.specs.Values.{parse_filter_length}
 use Rattle.filter_functions.specs.declared.FilterValue.{FilterValue}
 use Rattle.filter_functions.specs.declared.FilterValue.TheVariants as G
 use Rattle.filter_functions.specs.declared.Shadow.{Shadow}
-use Rattle.fast_length.proofs.Told.{told_ok}
+use Rattle.fast_numbers.proofs.Told.{told_ok}
 use Rattle.fast_filter_functions.specs.Told.{and_then, closed_or, colored, offset_at, radius_at, lengths_at, lengths_first, color_first, shadow_at}
 use Rattle.fast_filter_functions.proofs.Names.{curr_still, closed}
 use Rattle.fast_filter_functions.proofs.Laws.{Offset, Radius, then_some, some_is, ok_is, offset_is, radius_is}

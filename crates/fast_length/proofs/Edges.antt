@@ -24,7 +24,7 @@ use Rattle.numbers.specs.declared.Written.{Written}
 use Rattle.length.specs.Lengths.{LengthStep, end_step, unit_at, unit_width, parse_length, parse_list_length, parse_step, parse_whole, from_str, next_length}
 use Rattle.length.specs.declared.Length.{Length}
 use Rattle.fast_numbers.proofs.Plain.{Plain, plain_known, plain_text, plain_trans}
-use Rattle.fast_length.proofs.Told.{told_ok}
+use Rattle.fast_numbers.proofs.Told.{told_ok}
 use Rattle.fast_length.proofs.Units.{unit_plain}
 
 pub long : (s : List ℕ) → 4096 < length s → from_str s ≡ Err (bare_refusal R.TextTooLong)

@@ -2,9 +2,8 @@
 use Prim.Native.Nat.{ℕ, ◌+◌, ◌≤◌}
 use mathlib.Core.List.{List}
 use mathlib.Core.Path.{◌≡◌, refl}
-use native.Mathlib.Omega.{arith}
 use lib.ListN.{length}
-use Rattle.std.specs.Prelude.{Result, Ok, Err, Some, None}
+use Rattle.std.specs.Prelude.{Some, None}
 use Rattle.std.specs.Result.{result_ok}
 use Rattle.text_bytes.specs.Moves.{place}
 use Rattle.numbers.specs.Moves.{Number}
@@ -13,11 +12,6 @@ use Rattle.numbers.proofs.Values.{number_known}
 use Rattle.length.specs.Lengths.{with_unit, unit_at, unit_width, parse_length}
 use Rattle.fast_numbers.specs.Told.{told_number}
 use Rattle.fast_numbers.proofs.Told.{told_read, told_unread}
-
--- what is told of an answer is its value
-pub told_ok : {A E : Type 0} (r : Result A E) (a : A) → result_ok r ≡ Some a → (result_ok r ≡ Some a) × (r ≡ Ok a)
-told_ok (Ok b) a e = (e, cc)
-told_ok (Err x) a e = let z : ◌≡◌ {A = ℕ} 0 1 = cc in absurd (omega arith)
 
 module _ (s : List ℕ) (at : ℕ) where
   pub told_inside : (n : Number) → told_number (parse_number s at) ≡ Some n → (told_number (parse_number s at) ≡ Some n) × (n.end.0 ≤ length s)

@@ -1,23 +1,23 @@
 -- A unit by its two bytes, and that both are ASCII.
-use Prim.Native.Nat.{ℕ, zero, suc, ◌+◌, ◌-◌, ◌≤◌, ◌<◌}
+use Prim.Native.Nat.{ℕ, suc, ◌+◌, ◌≤◌, ◌<◌}
 use mathlib.Core.Bool.{true, ◌&&◌, cond}
 use mathlib.Core.List.{List, [], ◌∷◌}
 use mathlib.Core.Logic.{⊎_elim}
 use mathlib.Core.Path.{◌≡◌, refl, sym, ◌∙◌}
 use native.Mathlib.Nat.{add-zero}
 use native.Mathlib.Omega.{arith}
-use borrow.Author.Tests.{eqb-true, ne_eqb, leb-true, ltb-true}
-use lib.Dec.{eqb, leb, ltb}
+use borrow.Author.Tests.{eqb-true, ne_eqb, leb-true}
+use lib.Dec.{eqb, leb}
 use lib.ListN.{length, get_or, drop, drop_of_length-le, get_or-eq_default}
-use lib.Seq.{drop-cons, get_or-drop}
+use lib.Seq.{drop-cons}
 use Rattle.utf8.specs.Characters.{is_ascii}
 use Rattle.text_bytes.specs.Words.{starts_with}
-use Rattle.text_bytes.proofs.Ranges.{and_true, and_first, and_second, either, lt_or_le}
+use Rattle.text_bytes.proofs.Ranges.{and_true, either, lt_or_le}
 use Rattle.length.specs.Lengths.{unit_at, unit_width}
 use Rattle.length.proofs.Units.{unit_cases}
 use Rattle.length.specs.declared.LengthUnit.{LengthUnit}
 use Rattle.length.specs.declared.LengthUnit.TheVariants as U
-use Rattle.fast_numbers.proofs.Plain.{Plain, plain_here}
+use Rattle.fast_numbers.proofs.Plain.{Plain, plain_here, word_plain}
 
 -- a word of one byte, and of two: past the end is no byte of a word
 starts_one : (s : List ℕ) (i v : ℕ) → leb 1 v ≡ true → starts_with (v ∷ []) (drop i s) ≡ eqb (get_or s i 0) v
@@ -83,30 +83,12 @@ unit_none s i a b c d e f =
     let b0 = get_or s i 0 in
     unit_is s i ∙ simp (ne_eqb b0 37 a, ne_eqb b0 112 b, ne_eqb b0 101 c, ne_eqb b0 105 d, ne_eqb b0 99 e, ne_eqb b0 109 f)
 
--- the bytes of a word
-starts_low : (w l : List ℕ) → starts_with w l ≡ true → is_ascii w ≡ true → (k : ℕ) → k < length w → get_or l k 0 < 128
-unfolding starts_with is_ascii
-starts_low [] l e f k h = absurd (omega arith)
-starts_low (w ∷ ws) [] e f k h = omega arith
-starts_low (w ∷ ws) (x ∷ xs) e f zero h = omega (arith, eqb-true x w (and_first _ _ e), ltb-true w 128 (and_first _ _ f))
-starts_low (w ∷ ws) (x ∷ xs) e f (suc k) h = starts_low ws xs (and_second (eqb x w) _ e) (and_second (ltb w 128) _ f) k (omega arith)
-
 module _ (s : List ℕ) (i : ℕ) where
-  word_plain : (w : List ℕ) → is_ascii w ≡ true → starts_with w (drop i s) ≡ true → Plain s i (i + length w)
-  word_plain w f e =
-      record {
-        grows = omega arith;
-        bytes = λ m h q.
-            let k : i + (m - i) ≡ m = omega arith in
-            let x : get_or (drop i s) (m - i) 0 < 128 = starts_low w (drop i s) e f (m - i) (omega arith) in
-            rw (get_or-drop, k) at x;
-      }
-
   plain_none : Plain s i (i + 0)
   plain_none = let v : Plain s i i = plain_here s i in simp add-zero v
 
   pub unit_plain : Plain s i (i + unit_width (unit_at s i))
   unfolding unit_width is_ascii
   unit_plain =
-      unit_cases (λ u. Plain s i (i + unit_width u)) s i (word_plain _ refl) (word_plain _ refl) (word_plain _ refl) (word_plain _ refl) (word_plain _ refl)
-      (word_plain _ refl) (word_plain _ refl) (word_plain _ refl) (word_plain _ refl) plain_none
+      unit_cases (λ u. Plain s i (i + unit_width u)) s i (word_plain s i _ refl) (word_plain s i _ refl) (word_plain s i _ refl) (word_plain s i _ refl) (word_plain s i _ refl)
+      (word_plain s i _ refl) (word_plain s i _ refl) (word_plain s i _ refl) (word_plain s i _ refl) plain_none

@@ -81,7 +81,7 @@ fn unit_at(text: &[u8], at: Place) -> LengthUnit
 
 // What is told at a place, or the refusal there. Where no number starts it is made with no fault, else the plain reader says which it is.
 #[inline(always)]
-#[tactic(auto, unfolding(length::specs::Lengths::parse_length, numbers::specs::Number::parse_number, stream::specs::Refusals::refusal_of, stream::specs::Refusals::number_of), using(crate::proofs::Told::told_ok))]
+#[tactic(auto, unfolding(length::specs::Lengths::parse_length, numbers::specs::Number::parse_number, stream::specs::Refusals::refusal_of, stream::specs::Refusals::number_of), using(fast_numbers::proofs::Told::told_ok))]
 fn at_edge(
     text: &[u8],
     at: Place,

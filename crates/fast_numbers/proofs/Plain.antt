@@ -1,5 +1,5 @@
 -- The bytes of a number are ASCII, so that a text that is one is UTF-8.
-use Prim.Native.Nat.{ℕ, suc, ◌+◌, ◌-◌, ◌≤◌, ◌<◌}
+use Prim.Native.Nat.{ℕ, zero, suc, ◌+◌, ◌-◌, ◌≤◌, ◌<◌}
 use mathlib.Core.Bool.{Bool, true, false, ◌||◌}
 use mathlib.Core.List.{List, [], ◌∷◌}
 use mathlib.Core.Logic.{⊎_elim}
@@ -12,8 +12,9 @@ use lib.Seq.{get_or-drop}
 use Rattle.text_bytes.specs.Bytes.{is_digit, is_sign, is_space}
 use Rattle.utf8.specs.Characters.{is_ascii}
 use Rattle.text_bytes.specs.Scan.{scan}
+use Rattle.text_bytes.specs.Words.{starts_with}
 use Rattle.text_bytes.proofs.Ahead.{run_bytes}
-use Rattle.text_bytes.proofs.Ranges.{either, le_or_lt, within_le}
+use Rattle.text_bytes.proofs.Ranges.{either, and_first, and_second, le_or_lt, within_le}
 use Rattle.numbers.specs.Number.{after_sign, mantissa_at, mantissa_dot, exponent_at, exponent_from, parse_number}
 use Rattle.numbers.specs.Moves.{Number}
 use Rattle.numbers.proofs.Values.{is_e, is_dot, number_holds}
@@ -105,6 +106,25 @@ module _ (s : List ℕ) where
 
   pub plain_known : (i : ℕ) (r : Read Number) → parse_number s i ≡ Ok r → Plain s i r.next.0
   plain_known i r e = at_ok (λ r. Plain s i r.next.0) (LiesFrom s i) (parse_number s i) r (number_plain i) e
+
+-- the bytes of a word
+starts_low : (w l : List ℕ) → starts_with w l ≡ true → is_ascii w ≡ true → (k : ℕ) → k < length w → get_or l k 0 < 128
+unfolding starts_with is_ascii
+starts_low [] l e f k h = absurd (omega arith)
+starts_low (w ∷ ws) [] e f k h = omega arith
+starts_low (w ∷ ws) (x ∷ xs) e f zero h = omega (arith, eqb-true x w (and_first _ _ e), ltb-true w 128 (and_first _ _ f))
+starts_low (w ∷ ws) (x ∷ xs) e f (suc k) h = starts_low ws xs (and_second (eqb x w) _ e) (and_second (ltb w 128) _ f) k (omega arith)
+
+-- a word of ASCII that stands at a place
+pub word_plain : (s : List ℕ) (i : ℕ) (w : List ℕ) → is_ascii w ≡ true → starts_with w (drop i s) ≡ true → Plain s i (i + length w)
+word_plain s i w f e =
+    record {
+      grows = omega arith;
+      bytes = λ m h q.
+          let k : i + (m - i) ≡ m = omega arith in
+          let x : get_or (drop i s) (m - i) 0 < 128 = starts_low w (drop i s) e f (m - i) (omega arith) in
+          rw (get_or-drop, k) at x;
+    }
 
 -- a text of which no byte is left
 pub plain_text : (s : List ℕ) (j : ℕ) → Plain s 0 j → length s ≤ j → is_ascii s ≡ true

@@ -6,6 +6,7 @@ use native.Mathlib.Omega.{arith}
 use lib.ListN.{length, take, drop}
 use Rattle.text_bytes.proofs.Parts.{rest_part}
 use Rattle.std.specs.Prelude.{Result, Ok, Err, Some, None, MatchResult}
+use Rattle.std.specs.Result.{result_ok}
 use Rattle.stream.specs.declared.Fault.{Fault}
 use Rattle.stream.specs.declared.Read.{Read}
 use Rattle.stream.proofs.Binds.{at_ok}
@@ -14,6 +15,11 @@ use Rattle.numbers.specs.Moves.{Number}
 use Rattle.numbers.specs.Number.{parse_number}
 use Rattle.numbers.proofs.Values.{number_holds}
 use Rattle.fast_numbers.specs.Told.{told_number}
+
+-- what is told of an answer is its value
+pub told_ok : {A E : Type 0} (r : Result A E) (a : A) → result_ok r ≡ Some a → (result_ok r ≡ Some a) × (r ≡ Ok a)
+told_ok (Ok b) a e = (e, cc)
+told_ok (Err x) a e = let z : ◌≡◌ {A = ℕ} 0 1 = cc in absurd (omega arith)
 
 -- the plain reader read none
 pub record Unread (s : List ℕ) (at : ℕ) : Type 0 where

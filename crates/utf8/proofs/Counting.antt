@@ -2,19 +2,20 @@
 use Prim.Native.Nat.{ℕ, zero, suc, ◌+◌, ◌-◌, ◌≤◌, ◌<◌}
 use mathlib.Core.Bool.{Bool, true, false, cond, not}
 use mathlib.Core.List.{List, [], ◌∷◌, ◌++◌}
-use mathlib.Core.Path.{◌≡◌, refl, ap}
+use mathlib.Core.Logic.{⊎_elim}
+use mathlib.Core.Path.{◌≡◌, refl, ap, ◌∙◌}
 use native.Mathlib.Omega.{arith}
+use Rattle.std.proofs.Math.Nat.{min-eq_left, min-eq_right}
 use borrow.Author.Tests.{eq-eqb, ne_eqb}
 use lib.Dec.{eqb, eqb-suc-zero}
 use lib.ListN.{length, get_or, take, length-append}
-use lib.Seq.{take-append-add, take-append-le, get_or-append-add}
-use Rattle.std.specs.Prelude.{Ok, Err}
-use Rattle.std.specs.List.{filter}
+use lib.Seq.{take_all, take-length, take-append-add, take-append-le, get_or-append-add}
+use Rattle.std.specs.Prelude.{Ok, Err, min}
 use Rattle.text_bytes.specs.Bytes.{within, is_tail}
 use Rattle.utf8.specs.Characters.{keeps, row_of, len_at, char_len, walk, utf8_of, firsts, count, characters, calc_char_pos_at, heads, manual_at, on_character}
 use Rattle.text_bytes.proofs.Shifts.{eqb_shift}
 use Rattle.utf8.proofs.Octets.{tails, char_inside, char_more, char_tails, char_first}
-use Rattle.text_bytes.proofs.Ranges.{and_first, and_second}
+use Rattle.text_bytes.proofs.Ranges.{and_first, and_second, le_or_lt}
 use Rattle.text_bytes.specs.Moves.{place}
 
 firsts_heads : (l : List ℕ) (i k : ℕ) → tails k l ≡ true → walk i k l ≡ Ok tt → firsts k l ≡ heads l
@@ -68,20 +69,62 @@ heads_at [] i h = absurd (omega arith)
 heads_at (x ∷ xs) zero h = refl
 heads_at (x ∷ xs) (suc i) h = heads_at xs i (omega arith)
 
--- the bytes that continue no character, counted
-pub heads_counted : (s : List ℕ) (n : ℕ) → 1 + length (filter (λ b. not (is_tail b)) (take n s)) ≡ manual_at s n
-unfolding manual_at count heads
-heads_counted s n = ap (λ k. 1 + k) (go n s)
+-- one byte more, counted where it continues no character
+count_more : (l : List Bool) (i : ℕ) → i < length l → count (take (suc i) l) ≡ cond (get_or l i false) (suc (count (take i l))) (count (take i l))
+unfolding count
+count_more [] i h = absurd (omega arith)
+count_more (t ∷ ts) zero h = refl
+count_more (true ∷ ts) (suc i) h = go (get_or ts i false) (count (take i ts)) (count_more ts i (omega arith))
   where
-    go : (n : ℕ) (s : List ℕ) → length (filter (λ b. not (is_tail b)) (take n s)) ≡ count (take n (heads s))
-    go zero s = refl
-    go (suc n) [] = refl
-    go (suc n) (x ∷ xs) = one (is_tail x) (go n xs)
-      where
-        one : (t : Bool) → length (filter (λ b. not (is_tail b)) (take n xs)) ≡ count (take n (heads xs))
-            → length (cond (not t) (x ∷ filter (λ b. not (is_tail b)) (take n xs)) (filter (λ b. not (is_tail b)) (take n xs))) ≡ count (not t ∷ take n (heads xs))
-        one true h = h
-        one false h = ap suc h
+    go : {a : ℕ} (t : Bool) (b : ℕ) → a ≡ cond t (suc b) b → suc a ≡ cond t (suc (suc b)) (suc b)
+    go true b e = ap suc e
+    go false b e = ap suc e
+count_more (false ∷ ts) (suc i) h = count_more ts i (omega arith)
+
+-- the loop: how many are counted before its turn i
+pub counted_none : (s : List ℕ) → manual_at s 0 ≡ 1
+unfolding manual_at count
+counted_none s = refl
+
+module _ (s : List ℕ) (i : ℕ) where
+  turn : i < length s → manual_at s (i + 1) ≡ cond (not (is_tail (get_or s i 0))) (suc (manual_at s i)) (manual_at s i)
+  unfolding manual_at
+  turn h =
+      let e : i + 1 ≡ suc i = omega arith in
+      rw (e, count_more (heads s) i (omega (arith, heads_length s)), heads_at s i h) (go (not (is_tail (get_or s i 0))) (count (take i (heads s))))
+    where
+      go : (t : Bool) (a : ℕ) → 1 + cond t (suc a) a ≡ cond t (suc (1 + a)) (1 + a)
+      go true a = omega arith
+      go false a = refl
+
+  pub counted_head : i < length s → is_tail (get_or s i 0) ≡ false → manual_at s (i + 1) ≡ manual_at s i + 1
+  counted_head h e = simp e at (turn h) ∙ omega arith
+
+  pub counted_tail : i < length s → is_tail (get_or s i 0) ≡ true → manual_at s (i + 1) ≡ manual_at s i
+  counted_tail h e = simp e at (turn h)
+
+heads_take : (p : ℕ) (s : List ℕ) → heads (take p s) ≡ take p (heads s)
+unfolding heads
+heads_take zero s = refl
+heads_take (suc p) [] = refl
+heads_take (suc p) (x ∷ xs) = rw (heads_take p xs) refl
+
+-- at its end: all of what stands before the place
+pub counted_all : (s : List ℕ) (p n : ℕ) → n ≡ length (take p s) → manual_at (take p s) n ≡ manual_at s p
+unfolding manual_at
+counted_all s p n q = rw (q, ← heads_length (take p s), take-length, heads_take p s) refl
+
+-- a place past the end counts as the end
+pub before_end : (s : List ℕ) (p : ℕ) → manual_at s (min p (length s)) ≡ manual_at s p
+unfolding manual_at
+before_end s p =
+    ⊎_elim (λ (h : p ≤ length s). rw (min-eq_left h) refl)
+    (λ (h : length s < p).
+    let e : length (heads s) ≤ length s = omega (arith, heads_length s) in
+    let f : length (heads s) ≤ p = omega (arith, heads_length s) in
+    let q : length s ≤ p = omega arith in
+    rw (min-eq_right q, take_all (length s) (heads s) e, take_all p (heads s) f) refl)
+    (le_or_lt p (length s))
 
 -- on a UTF-8 text a place is on a character where its byte continues none
 module _ (s : List ℕ) (i : ℕ) (u : utf8_of s ≡ Ok tt) where

@@ -153,6 +153,13 @@ four_ascii s i h =
 pub walk_four : (s : List ℕ) (i : ℕ) → is_ascii (take 4 (drop i s)) ≡ true → walk i 0 (drop i s) ≡ walk (i + 4) 0 (drop (i + 4) s)
 walk_four s i e = walk_front 4 (drop i s) i e ∙ ap (λ l. walk (i + 4) 0 l) (drop-drop 4 i s)
 
+-- eight, which std tests
+pub walk_eight : (s : List ℕ) (i : ℕ) → i + 8 ≤ length s → IsAscii (take (i + 8 - i) (drop i s)) → walk i 0 (drop i s) ≡ walk (i + 8) 0 (drop (i + 8) s)
+walk_eight s i h f =
+    let q : i + 8 - i ≡ 8 = omega arith in
+    let e : is_ascii (take 8 (drop i s)) ≡ true = rw q at (ascii_all (take (i + 8 - i) (drop i s)) (λ j h. f j)) in
+    walk_front 8 (drop i s) i e ∙ ap (λ l. walk (i + 8) 0 l) (drop-drop 8 i s)
+
 skip_past : (n : ℕ) (s : List ℕ) (i : ℕ) → length s ≤ i → skip_chars n s i ≡ i
 unfolding skip_chars char_len
 skip_past zero s i h = refl

@@ -48,12 +48,25 @@ fn four(text: &[u8], at: usize) -> bool
     (text[at] < 128) & ((text[at + 1] < 128) & ((text[at + 2] < 128) & (text[at + 3] < 128)))
 }
 
-// A place that ASCII alone stands before, where the walk may begin: gone to by fours.
-#[tactic(auto, unfolding(crate::specs::Characters::utf8_of), using(crate::proofs::Walks::walk_four))]
+// A place that ASCII alone stands before: gone to by eights, each tested as one word.
+#[tactic(auto, unfolding(crate::specs::Characters::utf8_of), using(crate::proofs::Walks::walk_eight))]
+fn ascii_eights(text: &[u8]) -> usize
+    ensures inside { result ≤ length text.now }
+    ensures begins { walk result 0 (drop result text.now) ≡ utf8_of text.now }
+{
+    let mut i = 0;
+    while 8 <= text.len() - i && text[i..i + 8].is_ascii() {
+        i += 8;
+    }
+    i
+}
+
+// A place that ASCII alone stands before, where the walk may begin: by eights, then by fours, as most texts are short.
+#[tactic(auto, using(crate::proofs::Walks::walk_four))]
 fn ascii_front(text: &[u8]) -> usize
     ensures { walk result 0 (drop result text.now) ≡ utf8_of text.now }
 {
-    let mut i = 0;
+    let mut i = ascii_eights(text);
     while 4 <= text.len() - i && four(text, i) {
         i += 4;
     }
@@ -95,12 +108,19 @@ pub fn utf8_test(text: &[u8]) -> Result<(), Place>
 }
 
 // The position of a place in a UTF-8 text, as the manual counts: from 1, "count every byte that does not continue a character" before it.
+#[tactic(auto, using(crate::proofs::Counting::counted_none, crate::proofs::Counting::counted_head, crate::proofs::Counting::counted_tail, crate::proofs::Counting::counted_all, crate::proofs::Counting::before_end, crate::proofs::Counting::manual_counts))]
 pub fn calc_char_pos_at(text: &[u8], place: Place) -> Position
     requires { utf8_of text.now ≡ Ok tt }
     ensures { result.0 ≡ calc_char_pos_at text.now place.0 }
 {
-    let before = text.iter().take(place.0).filter(|&&b| !is_tail(b)).count();
-    Position(1 + before)
+    // A loop: `take` and `filter` look twice for the end at each byte, and every refusal counts its position.
+    let mut n = 1;
+    for &b in &text[..place.0.min(text.len())] {
+        if !is_tail(b) {
+            n += 1;
+        }
+    }
+    Position(n)
 }
 
 // The place `count` characters after `at`, or the end of the text.
