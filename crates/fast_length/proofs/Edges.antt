@@ -1,11 +1,12 @@
 -- A whole text and a step of a list, by what is told at a place.
 use Prim.Native.Nat.{ℕ, ◌+◌, ◌≤◌, ◌<◌}
 use mathlib.Core.List.{List}
-use mathlib.Core.Path.{◌≡◌, refl, sym, ap}
-use borrow.Author.Tests.{le-leb, lt-leb, le-ltb}
+use native.Mathlib.Omega.{arith}
+use mathlib.Core.Path.{◌≡◌, refl, sym, ap, ◌∙◌}
+use borrow.Author.Tests.{le-leb, lt-leb, le-ltb, lt-ltb}
 use lib.Dec.{ltb, leb}
 use lib.ListN.{length}
-use Rattle.std.specs.Prelude.{Result, Ok, Err, Option, Some, if◌then◌else◌}
+use Rattle.std.specs.Prelude.{Result, Ok, Err, Option, Some, None, if◌then◌else◌}
 use Rattle.std.specs.Result.{result_ok}
 use Rattle.text_bytes.specs.Flow.{◌>>=◌}
 use Rattle.text_bytes.specs.Moves.{place}
@@ -26,6 +27,7 @@ use Rattle.length.specs.declared.Length.{Length}
 use Rattle.fast_numbers.proofs.Plain.{Plain, plain_known, plain_text, plain_trans}
 use Rattle.fast_numbers.proofs.Told.{told_ok}
 use Rattle.fast_length.proofs.Units.{unit_plain}
+use Rattle.fast_length.specs.Left.{refused_or, left}
 
 pub long : (s : List ℕ) → 4096 < length s → from_str s ≡ Err (bare_refusal R.TextTooLong)
 unfolding from_str admit_text
@@ -70,6 +72,38 @@ whole s = go (admit_text s) (parse_length s 0)
     go (Ok u) (Ok r) = either (ltb r.next.0 (length s)) (λ h. simp h) (λ h. simp h)
     go (Ok u) (Err f) = refl
     go (Err e) x = refl
+
+-- bytes left after a length
+pub left_over : (s : List ℕ) (r : Read (Written Length)) → result_ok (parse_length s 0) ≡ Some r → r.next.0 < length s
+    → (result_ok (parse_length s 0) ≡ Some r) × (from_str s ≡ Err (left s r.next.0))
+unfolding from_str parse_whole left
+left_over s r e h =
+    let q = (told_ok (parse_length s 0) r e).1 in
+    (e, simp (q, lt-ltb r.next.0 (length s) h) (go (admit_text s)))
+  where
+    more : Unit {0} → Result (Written Length) Refusal
+    more u = at_edge s (Err (unexpected_data s r.next.0))
+
+    go : (a : Result (Unit {0}) Refusal) → (a >>= more) ≡ Err (refused_or a (refusal_of s (unexpected_data s r.next.0)))
+    go (Ok u) = refl
+    go (Err x) = refl
+
+-- no length
+pub none_read : (s : List ℕ) → result_ok (parse_length s 0) ≡ None → from_str s ≡ (do
+  _ ← admit_text s
+  r ← at_edge s (parse_length s 0)
+  Ok r.value)
+none_read s e = whole s ∙ go (parse_length s 0) e
+  where
+    go : (x : Result (Read (Written Length)) Fault) → result_ok x ≡ None → (do
+      _ ← admit_text s
+      r ← at_edge s x
+      if ltb r.next.0 (length s) then Err (refusal_of s (unexpected_data s r.next.0)) else Ok r.value) ≡ (do
+        _ ← admit_text s
+        r ← at_edge s x
+        Ok r.value)
+    go (Ok r) q = absurd (let z : ◌≡◌ {A = ℕ} 0 1 = cc in omega arith)
+    go (Err f) q = refl
 
 abbrev stepped : List ℕ → Result (Read (Written Length)) Refusal → LengthStep
 stepped s (Ok r) = record { item = Ok (Some r.value); place = place (after_item s r.next.0) }

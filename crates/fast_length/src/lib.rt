@@ -1,12 +1,13 @@
 // A length and a step of a list of lengths, sooner. No fault is carried where no number starts: the refusal is made where it is answered.
 #![tactic(auto)]
 
-ghost use Rattle.std.specs.Prelude.{◌≡◌, ◌≤◌, length, Ok};
+ghost use Rattle.std.specs.Prelude.{◌≡◌, ◌≤◌, length, Ok, None};
 ghost use Rattle.std.specs.Result.{result_ok};
 ghost use Rattle.utf8.specs.Characters.{utf8_of};
 ghost use Rattle.stream.specs.Refusals.{at_edge, admit_text};
 ghost use Rattle.length.specs.Lengths.{unit_at, parse_length, from_str, next_length};
 ghost use Rattle.records.specs.Records.{length_step_record};
+ghost use Rattle.fast_length.specs.Left.{left};
 
 use length::{Length, LengthUnit};
 use numbers::Written;
@@ -14,25 +15,44 @@ use stream::{LIMIT, Read, Reason, Refusal, Step, Trouble};
 use text_bytes::Place;
 
 // A whole text. The bytes of a length are ASCII: one that fills the text is told before the text is tested for UTF-8.
-#[tactic(auto, using(crate::proofs::Edges::long, crate::proofs::Edges::filled, crate::proofs::Edges::whole, stream::proofs::Edges::admitted_utf8))]
+#[tactic(auto, using(crate::proofs::Edges::long, crate::proofs::Edges::filled, crate::proofs::Edges::left_over))]
 pub fn from_str(text: &[u8]) -> Result<Written<Length>, Refusal>
     ensures { result ≡ from_str text.now }
 {
     if LIMIT < text.len() {
         return Err(stream::bare_refusal(Reason::TextTooLong));
     }
-    let told = length_at(text, Place(0));
-    if let Some(read) = told {
-        if text.len() <= read.next.0 {
-            return Ok(read.value);
-        }
-    }
-    stream::admit_text(text)?;
-    let read = at_edge(text, Place(0), told)?;
+    let Some(read) = length_at(text, Place(0)) else {
+        return unread(text);
+    };
     if read.next.0 < text.len() {
-        return Err(stream::refusal_of(text, stream::unexpected_data(text, read.next)));
+        return Err(left(text, read.next));
     }
     Ok(read.value)
+}
+
+// A text with no length. A call: where a refusal meets a length in registers, the length's number is taken apart byte by byte.
+#[cold]
+#[inline(never)]
+#[tactic(auto, using(crate::proofs::Edges::whole, crate::proofs::Edges::none_read, stream::proofs::Edges::admitted_utf8))]
+fn unread(text: &[u8]) -> Result<Written<Length>, Refusal>
+    requires { result_ok (parse_length text.now 0) ≡ None }
+    ensures { result ≡ from_str text.now }
+{
+    stream::admit_text(text)?;
+    let read = at_edge(text, Place(0), None)?;
+    Ok(read.value)
+}
+
+// A text with a length and more after it.
+#[tactic(auto, unfolding(crate::specs::Left::left), using(stream::proofs::Edges::admitted_utf8))]
+fn left(text: &[u8], end: Place) -> Refusal
+    ensures { result ≡ left text.now end.0 }
+{
+    match stream::admit_text(text) {
+        Err(refusal) => refusal,
+        Ok(()) => stream::refusal_of(text, stream::unexpected_data(text, end)),
+    }
 }
 
 // A length at a place, spaces before it skipped; None where the plain reader reads none. Compiled into its callers it needs no way through memory.
